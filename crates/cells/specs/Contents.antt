@@ -1,5 +1,5 @@
 -- Contents of objects, cell by cell, and bytes that agree with them.
-use Rattle.std.specs.Prelude.{◌≡◌, ℕ, ◌+◌, ◌<◌, ◌==◌, Bool, ◌&&◌, List, [], ◌∷◌, ◌++◌, length, take, drop, map, slice_index_or, nat_le, nat_lt}
+use Rattle.std.specs.Prelude.{◌≡◌, ℕ, ◌+◌, ◌<◌, Bool, ◌&&◌, List, [], ◌∷◌, ◌++◌, length, take, drop, map, slice_index_or, nat_le, nat_lt}
 use Rattle.std.specs.List.{range_with_len}
 
 -- A content is a list of cells. A cell is a byte, 0 to 255, or 256 where nothing is defined.

@@ -2,7 +2,9 @@
 #![tactic(auto)]
 
 ghost use Rattle.std.specs.Prelude.{◌≡◌, ◌⊎◌, ◌+◌, ◌≤◌, ◌==◌, length, replicate, IfOk};
+ghost use Rattle.std.specs.Borrow.{sem};
 ghost use Rattle.cells.specs.Contents.{part, overwritten};
+ghost use Rattle.cells.specs.Lending.{LendsAll};
 
 use std::alloc::{AllocError, Global};
 use std::marker::Model;
@@ -49,6 +51,14 @@ impl Bytes {
         ensures { result.now ≡ self.now }
     {
         self.bytes.as_slice()
+    }
+
+    /// The bytes, to be written to.
+    pub fn as_mut_slice(&mut self) -> &mut [u8]
+        ensures* writes_back { sem 𝓛 (LendsAll self.entry result) }
+        ensures value { result.now ≡ self.old }
+    {
+        self.bytes.as_mut_slice()
     }
 
     pub fn len(&self) -> usize
