@@ -1,0 +1,218 @@
+-- How a run ends, by what it has to say and what the sink took of it.
+use Rattle.std.proofs.Common.{◌≡◌, ◌≢◌, ◌⊎◌, ℕ, ◌+◌, ◌<◌, ◌≤◌, Bool, true, false, List, [], ◌++◌, length, take, Option, Some, None, refl, sym, ap, ◌∙◌, subst, arith, inl, inr, length-append}
+use Rattle.std.proofs.lemmas.List.{append-nil}
+use Rattle.std.specs.Io.KnownBytes.{Appends, Consumes, IsAtEnd}
+use Rattle.trace_io.specs.declared.status.Status.{Status}
+use Rattle.trace_io.specs.declared.status.Status.TheVariants.{Ok, Usage, Trace, ReadFault, WriteFault, DeviceLost, Memory}
+use Rattle.faults.specs.Faults.{Rose}
+use Rattle.vk_device.specs.declared.logged.Logged.{Logged}
+use Rattle.trace_run.specs.declared.calls.Call.{Call}
+use Rattle.trace_run.specs.declared.calls.Entry.{Entry}
+use Rattle.trace_run.specs.declared.once.Said.{Said}
+use Rattle.trace_run.specs.declared.once.Said.TheVariants as said
+use Rattle.trace_run.specs.declared.replies.Tail.TheVariants.{End, Lost}
+use Rattle.trace_run.specs.Trace.{IsTrace, IsFirstFault}
+use Rattle.trace_run.specs.Once.{SpellsOnce, Ran, RanWhole, Answered, WasLost, IsRefusal, Refused, IsWritten, WasCutOff, IsSaid, Says, Puts, text_of, status_of, has_text, usage_line, MayAnswer, MayRefuse, MayRefuseLong}
+use Rattle.trace_run.proofs.Form.{exclusive, first_fault_once}
+
+-- a text that was put is said
+pub puts_said : {text : List ℕ} {good : Status} {taken taken_after : Option (List ℕ)} {faults faults_after : ℕ} {status : Status} (it : Said) → Puts text good taken taken_after faults faults_after status → text ≡ text_of it → good ≡ status_of it → has_text it ≡ true → Says it taken taken_after faults faults_after status
+puts_said {taken = taken} {taken_after = taken_after} it (Puts.all s a) same good has = Says.whole (s ∙ good) has (subst (Appends taken taken_after) same a)
+puts_said {taken = taken} {taken_after = taken_after} it (Puts.some s rose n a) same good has = Says.front s has rose n (subst (λ (l : List ℕ). Appends taken taken_after (take n l)) same a)
+
+no_yes : false ≡ true → ⊥
+no_yes e = cc
+
+no_silence : (it : Said) → has_text it ≡ true → (status_of it ≡ ReadFault) ⊎ (status_of it ≡ Memory) → ⊥
+no_silence said.Usage has (inl e) = cc
+no_silence said.Usage has (inr e) = cc
+no_silence (said.Refused line kind) has (inl e) = cc
+no_silence (said.Refused line kind) has (inr e) = cc
+no_silence (said.Replies End history) has (inl e) = cc
+no_silence (said.Replies End history) has (inr e) = cc
+no_silence (said.Replies Lost history) has (inl e) = cc
+no_silence (said.Replies Lost history) has (inr e) = cc
+no_silence said.ReadFault has e = no_yes has
+no_silence said.Memory has e = no_yes has
+
+either : {status : Status} (it : Said) → status ≡ status_of it → (status ≡ ReadFault) ⊎ (status ≡ Memory) → (status_of it ≡ ReadFault) ⊎ (status_of it ≡ Memory)
+either it e (inl is) = inl (sym e ∙ is)
+either it e (inr is) = inr (sym e ∙ is)
+
+pub silent : {taken taken_after : Option (List ℕ)} {faults faults_after : ℕ} {status : Status} (it : Said) → Says it taken taken_after faults faults_after status → (status ≡ ReadFault) ⊎ (status ≡ Memory) → taken_after ≡ taken
+silent it (Says.whole e h a) is = absurd (no_silence it h (either it e is))
+silent it (Says.front e h rose n a) (inl is) = let wrong : WriteFault ≡ ReadFault = sym e ∙ is in absurd (cc)
+silent it (Says.front e h rose n a) (inr is) = let wrong : WriteFault ≡ Memory = sym e ∙ is in absurd (cc)
+silent it (Says.no_text e h same) is = same
+silent it (Says.no_memory e same) is = same
+
+-- what came is all that was there
+whole_text : (text came : List ℕ) (left left_after : Option (List ℕ)) → left ≡ Some text → Consumes left left_after came → IsAtEnd left_after → came ≡ text
+whole_text text came left None is consumes ended = absurd (rw is at consumes)
+whole_text text came left (Some rest) is consumes ended = let e : text ≡ came ++ rest = rw is at consumes in sym (e ∙ ap (λ (l : List ℕ). came ++ l) ended ∙ append-nil came)
+
+-- what came is no longer than what was there
+came_short : (text came : List ℕ) (left left_after : Option (List ℕ)) → left ≡ Some text → Consumes left left_after came → length came ≤ length text
+came_short text came left None is consumes = absurd (rw is at consumes)
+came_short text came left (Some rest) is consumes = let e : text ≡ came ++ rest = rw is at consumes in omega (arith, ap length e, length-append came rest)
+
+module _ (words : List (List ℕ)) (left left_after : Option (List ℕ)) (reads reads_after losses losses_after : ℕ) (journal : List Logged) (taken taken_after : Option (List ℕ)) (faults faults_after : ℕ) (status : Status) where
+  abbrev So : Said → Type 0
+  So it = IsSaid words left left_after reads reads_after losses losses_after journal it
+
+  abbrev Spoken : Said → Type 0
+  Spoken it = Says it taken taken_after faults faults_after status
+
+  abbrev Taken : Said → Type 0
+  Taken it = has_text it ≡ true → Appends taken taken_after (text_of it)
+
+  -- a status that blames neither the sink nor the memory is that of what is said
+  spoke : (s : Status) (it : Said) → status ≡ s → s ≢ WriteFault → s ≢ Memory → Spoken it → (status_of it ≡ s) × Taken it
+  spoke s it is fault memory (Says.whole e h a) = (sym e ∙ is, λ yes. a)
+  spoke s it is fault memory (Says.front e h rose n a) = absurd (fault (sym is ∙ e))
+  spoke s it is fault memory (Says.no_text e h same) = (sym e ∙ is, λ yes. absurd (no_yes (sym h ∙ yes)))
+  spoke s it is fault memory (Says.no_memory e same) = absurd (memory (sym is ∙ e))
+
+  ok_from : (it : Said) → status_of it ≡ Ok → So it → Taken it → Answered left left_after taken taken_after journal
+  ok_from (said.Replies End history) e so a = record { history = history.items; ran = so; written = a refl }
+  ok_from (said.Replies Lost history) e so a = absurd (cc)
+  ok_from said.Usage e so a = absurd (cc)
+  ok_from (said.Refused line kind) e so a = absurd (cc)
+  ok_from said.ReadFault e so a = absurd (cc)
+  ok_from said.Memory e so a = absurd (cc)
+
+  pub ok : (it : Said) → So it → Spoken it → status ≡ Ok → Answered left left_after taken taken_after journal
+  ok it so says is = let sp = spoke Ok it is (λ e. cc) (λ e. cc) says in ok_from it sp.0 so sp.1
+
+  usage_from : (it : Said) → status_of it ≡ Usage → So it → Taken it → (¬ SpellsOnce words) × Appends taken taken_after usage_line
+  usage_from said.Usage e so a = (so, a refl)
+  usage_from (said.Replies End history) e so a = absurd (cc)
+  usage_from (said.Replies Lost history) e so a = absurd (cc)
+  usage_from (said.Refused line kind) e so a = absurd (cc)
+  usage_from said.ReadFault e so a = absurd (cc)
+  usage_from said.Memory e so a = absurd (cc)
+
+  pub usage : (it : Said) → So it → Spoken it → status ≡ Usage → (¬ SpellsOnce words) × Appends taken taken_after usage_line
+  usage it so says is = let sp = spoke Usage it is (λ e. cc) (λ e. cc) says in usage_from it sp.0 so sp.1
+
+  trace_from : (l k : ℕ) (it : Said) → status_of it ≡ Trace l k → So it → Taken it → Refused left left_after taken taken_after l k
+  trace_from l k (said.Refused line kind) e so a =
+      let same_line : line ≡ l = cc in
+      let same_kind : kind ≡ k = cc in
+      subst (λ (n : ℕ). Refused left left_after taken taken_after n k) same_line (subst (λ (n : ℕ). Refused left left_after taken taken_after line n) same_kind (record { refusal = so; written = a refl }))
+  trace_from l k (said.Replies End history) e so a = absurd (cc)
+  trace_from l k (said.Replies Lost history) e so a = absurd (cc)
+  trace_from l k said.Usage e so a = absurd (cc)
+  trace_from l k said.ReadFault e so a = absurd (cc)
+  trace_from l k said.Memory e so a = absurd (cc)
+
+  pub trace : (it : Said) → So it → Spoken it → (l k : ℕ) → status ≡ Trace l k → Refused left left_after taken taken_after l k
+  trace it so says l k is = let sp = spoke (Trace l k) it is (λ e. cc) (λ e. cc) says in trace_from l k it sp.0 so sp.1
+
+  read_from : (it : Said) → status_of it ≡ ReadFault → So it → Rose reads reads_after
+  read_from said.ReadFault e so = so
+  read_from (said.Replies End history) e so = absurd (cc)
+  read_from (said.Replies Lost history) e so = absurd (cc)
+  read_from said.Usage e so = absurd (cc)
+  read_from (said.Refused line kind) e so = absurd (cc)
+  read_from said.Memory e so = absurd (cc)
+
+  pub read_fault : (it : Said) → So it → Spoken it → status ≡ ReadFault → Rose reads reads_after
+  read_fault it so says is = read_from it (spoke ReadFault it is (λ e. cc) (λ e. cc) says).0 so
+
+  lost_from : (it : Said) → status_of it ≡ DeviceLost → So it → Taken it → Rose losses losses_after × WasLost left left_after taken taken_after
+  lost_from (said.Replies Lost history) e so a = (so.1, record { history = history.items; ran = so.0; written = a refl })
+  lost_from (said.Replies End history) e so a = absurd (cc)
+  lost_from said.Usage e so a = absurd (cc)
+  lost_from (said.Refused line kind) e so a = absurd (cc)
+  lost_from said.ReadFault e so a = absurd (cc)
+  lost_from said.Memory e so a = absurd (cc)
+
+  pub lost : (it : Said) → So it → Spoken it → status ≡ DeviceLost → Rose losses losses_after × WasLost left left_after taken taken_after
+  lost it so says is = let sp = spoke DeviceLost it is (λ e. cc) (λ e. cc) says in lost_from it sp.0 so sp.1
+
+  no_write_fault : (it : Said) → status_of it ≡ WriteFault → ⊥
+  no_write_fault said.Usage e = cc
+  no_write_fault (said.Refused line kind) e = cc
+  no_write_fault (said.Replies End history) e = cc
+  no_write_fault (said.Replies Lost history) e = cc
+  no_write_fault said.ReadFault e = cc
+  no_write_fault said.Memory e = cc
+
+  written_of : (it : Said) → So it → has_text it ≡ true → IsWritten words left left_after (text_of it)
+  written_of said.Usage so has = IsWritten.usage so refl
+  written_of (said.Refused line kind) so has = IsWritten.refusal line kind so refl
+  written_of (said.Replies End history) so has = IsWritten.replies End history.items so.ran refl
+  written_of (said.Replies Lost history) so has = IsWritten.replies Lost history.items so.0 refl
+  written_of said.ReadFault so has = absurd (no_yes has)
+  written_of said.Memory so has = absurd (no_yes has)
+
+  pub cut_off : (it : Said) → So it → Spoken it → status ≡ WriteFault → Rose faults faults_after × WasCutOff words left left_after taken taken_after
+  cut_off it so (Says.whole e h a) is = absurd (no_write_fault it (sym e ∙ is))
+  cut_off it so (Says.front e h rose n a) is = (rose, record { text = text_of it; is_written = written_of it so h; count = n; written = a })
+  cut_off it so (Says.no_text e h same) is = absurd (no_write_fault it (sym e ∙ is))
+  cut_off it so (Says.no_memory e same) is = let wrong : Memory ≡ WriteFault = sym e ∙ is in absurd (cc)
+
+  -- any status that what is said may have, and want of memory, and a fault of the sink
+  any : (P : Status → Type 0) (it : Said) → P (status_of it) → P WriteFault → P Memory → Spoken it → P status
+  any P it own fault memory (Says.whole e h a) = subst P (sym e) own
+  any P it own fault memory (Says.front e h rose n a) = subst P (sym e) fault
+  any P it own fault memory (Says.no_text e h same) = subst P (sym e) own
+  any P it own fault memory (Says.no_memory e same) = subst P (sym e) memory
+
+  refusal_of : (text : List ℕ) (line l k : ℕ) → left ≡ Some text → length text ≤ 67108864 → IsFirstFault text line → IsRefusal left left_after l k → (l ≡ line) × (k ≡ 10)
+  refusal_of text line l k is short fault (came, consumes, inl why) =
+      let same : came ≡ text = whole_text text came left left_after is consumes why.2 in
+      (first_fault_once text l line (subst (λ (t : List ℕ). IsFirstFault t l) same why.1) fault, why.0)
+  refusal_of text line l k is short fault (came, consumes, inr why) = absurd (omega (arith, why.2, came_short text came left left_after is consumes))
+
+  no_run : (text : List ℕ) (line : ℕ) (history : List Entry) → left ≡ Some text → IsFirstFault text line → Ran left left_after history → ⊥
+  no_run text line history is fault ran =
+      let same : ran.text ≡ text = whole_text text ran.text left left_after is ran.read ran.ended in
+      exclusive text ran.calls line fault (subst (λ (t : List ℕ). IsTrace t ran.calls) same ran.trace)
+
+  may_refuse : (it : Said) → So it → (text : List ℕ) (line : ℕ) → left ≡ Some text → length text ≤ 67108864 → SpellsOnce words → IsFirstFault text line → MayRefuse line (status_of it)
+  may_refuse said.Usage so text line is short spells fault = absurd (so spells)
+  may_refuse (said.Refused l k) so text line is short spells fault = refusal_of text line l k is short fault so
+  may_refuse (said.Replies End history) so text line is short spells fault = absurd (no_run text line history.items is fault so.ran)
+  may_refuse (said.Replies Lost history) so text line is short spells fault = absurd (no_run text line history.items is fault so.0)
+  may_refuse said.ReadFault so text line is short spells fault = tt
+  may_refuse said.Memory so text line is short spells fault = tt
+
+  pub refused : (it : Said) → So it → Spoken it → (text : List ℕ) (line : ℕ) → left ≡ Some text → length text ≤ 67108864 → SpellsOnce words → IsFirstFault text line → MayRefuse line status
+  refused it so says text line is short spells fault = any (MayRefuse line) it (may_refuse it so text line is short spells fault) tt tt says
+
+  long_refusal : (text : List ℕ) (l k : ℕ) → left ≡ Some text → 67108864 < length text → IsRefusal left left_after l k → (l ≡ 0) × (k ≡ 8)
+  long_refusal text l k is long (came, consumes, inl why) = absurd (omega (arith, why.3, ap length (whole_text text came left left_after is consumes why.2)))
+  long_refusal text l k is long (came, consumes, inr why) = (why.1, why.0)
+
+  no_long_run : (text : List ℕ) (history : List Entry) → left ≡ Some text → 67108864 < length text → Ran left left_after history → ⊥
+  no_long_run text history is long ran = absurd (omega (arith, ran.short, ap length (whole_text text ran.text left left_after is ran.read ran.ended)))
+
+  may_refuse_long : (it : Said) → So it → (text : List ℕ) → left ≡ Some text → 67108864 < length text → SpellsOnce words → MayRefuseLong (status_of it)
+  may_refuse_long said.Usage so text is long spells = absurd (so spells)
+  may_refuse_long (said.Refused l k) so text is long spells = long_refusal text l k is long so
+  may_refuse_long (said.Replies End history) so text is long spells = absurd (no_long_run text history.items is long so.ran)
+  may_refuse_long (said.Replies Lost history) so text is long spells = absurd (no_long_run text history.items is long so.0)
+  may_refuse_long said.ReadFault so text is long spells = tt
+  may_refuse_long said.Memory so text is long spells = tt
+
+  pub too_long : (it : Said) → So it → Spoken it → (text : List ℕ) → left ≡ Some text → 67108864 < length text → SpellsOnce words → MayRefuseLong status
+  too_long it so says text is long spells = any MayRefuseLong it (may_refuse_long it so text is long spells) tt tt says
+
+  no_refusal : (text : List ℕ) (calls : List Call) (l k : ℕ) → left ≡ Some text → length text ≤ 67108864 → IsTrace text calls → IsRefusal left left_after l k → ⊥
+  no_refusal text calls l k is short trace (came, consumes, inl why) =
+      let same : came ≡ text = whole_text text came left left_after is consumes why.2 in
+      exclusive text calls l (subst (λ (t : List ℕ). IsFirstFault t l) same why.1) trace
+  no_refusal text calls l k is short trace (came, consumes, inr why) = absurd (omega (arith, why.2, came_short text came left left_after is consumes))
+
+  may_answer : (it : Said) → So it → (text : List ℕ) (calls : List Call) → left ≡ Some text → length text ≤ 67108864 → SpellsOnce words → IsTrace text calls → MayAnswer (status_of it)
+  may_answer said.Usage so text calls is short spells trace = absurd (so spells)
+  may_answer (said.Refused l k) so text calls is short spells trace = absurd (no_refusal text calls l k is short trace so)
+  may_answer (said.Replies End history) so text calls is short spells trace = tt
+  may_answer (said.Replies Lost history) so text calls is short spells trace = tt
+  may_answer said.ReadFault so text calls is short spells trace = tt
+  may_answer said.Memory so text calls is short spells trace = tt
+
+  pub answered : (it : Said) → So it → Spoken it → (text : List ℕ) (calls : List Call) → left ≡ Some text → length text ≤ 67108864 → SpellsOnce words → IsTrace text calls → MayAnswer status
+  answered it so says text calls is short spells trace = any MayAnswer it (may_answer it so text calls is short spells trace) tt tt says

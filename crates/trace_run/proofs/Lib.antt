@@ -1,0 +1,11 @@
+mod Numbers
+mod Hexes
+mod Lists
+mod Tables
+mod Splits
+mod Spelling
+mod Form
+mod Advance
+mod StoreLaws
+mod Sound
+mod Ends

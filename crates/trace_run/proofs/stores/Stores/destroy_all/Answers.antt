@@ -1,0 +1,13 @@
+use Rattle.std.proofs.Common.{◌≡◌, ◌+◌, ℕ, sym, arith}
+use Rattle.trace_run.specs.Stands.{Holds, held_in, one}
+use Rattle.trace_run.proofs.StoreLaws.{holds_same, holds_destroyed, last_is_live, popped}
+use Rattle.trace_run.proofs.stores.Stores.destroy_all.Goals as goal
+
+pub destroy-requires : goal.destroy-requires
+destroy-requires g c = last_is_live _ (held_in c.pop_first.new.self.entries) c.in-Some.handle.0 (holds_same _ (held_in c.loop-handle.map.entries) _ c.loop-handle.invariant.holds (λ i. sym (popped c.loop-handle.map.entries c.pop_first.new.self.entries c.in-Some.ensures.removal i)))
+
+pub loop-handle-preserved : goal.loop-handle-preserved
+loop-handle-preserved g c = record {
+  holds = rw c.in_default-destroy.ensures.logged.logged (holds_destroyed _ (held_in c.pop_first.new.self.entries) c.in-Some.handle (holds_same _ (held_in c.loop-handle.map.entries) _ c.loop-handle.invariant.holds (λ i. sym (popped c.loop-handle.map.entries c.pop_first.new.self.entries c.in-Some.ensures.removal i))));
+  later = omega (arith, c.destroy.ensures.cause.later, c.loop-handle.invariant.later);
+}

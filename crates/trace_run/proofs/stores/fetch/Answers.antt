@@ -1,0 +1,19 @@
+use Rattle.std.proofs.Common.{◌≡◌, ℕ, ◌+◌, ◌≤◌, List, length, refl, sym, ap, ◌∙◌, subst, arith, Option}
+use Rattle.vk_types.specs.declared.handles.Kind.{Kind}
+use Rattle.vk_device.specs.Journal.{kind_of, ReachesTo}
+use Rattle.vk_device.proofs.Laws.{IsClean-push}
+use Rattle.trace_run.proofs.StoreLaws.{fetched_kind, same_bytes, holds_fetched}
+use Rattle.trace_run.proofs.stores.fetch.Goals as goal
+
+pub returns-clause-kept : goal.returns-clause-kept
+returns-clause-kept g c = λ i. (fetched_kind _ _ c.args.id c.args.at _ c.in_ok-read_host.ensures.logged.logged i, same_bytes _ _ c.args.id.0 c.in_ok-read_host.ensures.same c.in_ok-read_host.ensures.logged.others i)
+
+pub returns-clause-holds : goal.returns-clause-holds
+returns-clause-holds g c = λ held holds.
+    let size : length c.read_host.new.out ≡ c.args.len = omega (arith, c.in_ok-out.ensures.len) in
+    rw c.in_ok-read_host.ensures.logged.logged (holds_fetched _ held c.args.id c.args.at c.read_host.new.out holds (subst (λ (n : ℕ). ReachesTo (kind_of (g.D.Device.journal c.args.device.now) c.args.id.0) (c.args.at + n)) (sym size) c.requires.inside))
+
+pub returns-clause-clean : goal.returns-clause-clean
+returns-clause-clean g c = λ clean.
+    let size : length c.read_host.new.out ≡ c.args.len = omega (arith, c.in_ok-out.ensures.len) in
+    rw c.in_ok-read_host.ensures.logged.logged (IsClean-push _ _ clean (subst (λ (n : ℕ). ReachesTo (kind_of (g.D.Device.journal c.args.device.now) c.args.id.0) (c.args.at + n)) (sym size) c.requires.inside))
