@@ -1,1 +1,2 @@
+mod Blown
 pub mod Keeping

@@ -1,0 +1,24 @@
+//! Reads a trace of OpenGL ES calls from the input, runs it on a device in memory, and writes the replies to the output.
+#![tactic(auto)]
+
+#[cfg(test)]
+mod tests;
+
+use std::process::ExitCode;
+use std::{env, io};
+use trace_io::{StdSink, StdSource};
+use trace_run::run_once;
+use vk_fakes::FakeDevice;
+
+fn main(rt: HostRuntime) -> io::Result<ExitCode> {
+    let mut words = Vec::new(rt.alloc());
+    for word in env::args(&rt)?.skip(1) {
+        words.push(word)?;
+    }
+    let mut source = StdSource::new(rt.reader());
+    let mut sink = StdSink::new(io::writer(&rt));
+    let device = FakeDevice::first(rt.alloc());
+    let (status, device) = run_once(rt.alloc(), &words, &mut source, &mut sink, device);
+    drop(device);
+    Ok(ExitCode::from(status.number()))
+}
