@@ -1,0 +1,226 @@
+//! The turnstile.
+ghost use Rattle.std.specs.Prelude.{◌≡◌, ℕ, ◌+◌, ◌<◌, ◌≤◌, [], ◌∷◌, ◌++◌, true, false, length, slice_index, slice_set, Contains, IfOk, IfErr, Some, None, ◌≢◌};
+ghost use mathlib.Core.List.{IsPrefix};
+ghost use Rattle.turnstile.specs.Histories.{own, added, NamesOnly, NamesNone, longer, greatest};
+ghost use Rattle.turnstile.specs.Steps.{Gains};
+ghost use Rattle.turnstile.specs.Passes.{first_pass, new_pass};
+ghost use Rattle.turnstile.specs.Turns.{IsTurnOf};
+
+use crate::chronicle::Chronicle;
+use crate::rule::{
+    Board, COUNT, LoadCount, SplitPass, Gain, JoinPass, HOLDERS, Leave, LoadPublished, TakeLonger, Place, Store, WORDS,
+};
+use crate::pass::{Pass, Turn};
+use atomic_table::{Refused, Table};
+use std::alloc::{AllocFailed, Global};
+use std::marker::Model;
+use std::snapshot::Snapshot;
+use std::sync::Wait;
+
+/// A value that one pass at a time may have.
+#[derive(Drop)]
+pub struct Turnstile<V: Chronicle> {
+    board: Board<V>,
+    seats: u32,
+}
+
+impl<V: Chronicle> Model for Turnstile<V> {
+    ghost use Rattle.std.specs.Prelude.{◌≡◌};
+    ghost use Rattle.turnstile.specs.Views.{TurnstileModel};
+
+    ghost Value = { TurnstileModel };
+
+    ghost view = { λ t. record { name = t.board.shared.table_id; seats = t.seats } };
+
+    ghost invariant = { λ t. (t.board.shared.table_id.words ≡ 66) × (t.board.shared.table_id.slots ≡ 1) };
+}
+
+// What the words hold at the start.
+fn first_words<V: Chronicle>(value: &V) -> [u64; WORDS]
+    ensures ends { (length result ≡ 66) × (slice_index result 0 ≡ length (V.history value.now)) × (slice_index result 65 ≡ 0) }
+    ensures shown { (word : ℕ) → 0 < word → word < 65 → slice_index result word ≡ V.published value.now word }
+{
+    let mut words = [0; WORDS];
+    words[COUNT] = value.count();
+    for word in 1..HOLDERS {
+        words[word] = value.published(word as u32);
+    }
+    words
+}
+
+// The only value.
+fn only<V>(mut slots: Vec<Option<V>>) -> V
+    requires { (value : V) × (slots.items ≡ Some value ∷ []) }
+    ensures { slots.items ≡ Some result ∷ [] }
+{
+    let slot = slots.pop().unwrap();
+    slots.destroy_empty();
+    slot.unwrap()
+}
+
+impl<V: Chronicle> Turnstile<V> {
+    /// A turnstile with its pass 0, for at most `seats` passes. Where there is no memory, the value comes back.
+    pub fn new(alloc: Global, value: V, seats: u32) -> Result<(Turnstile<V>, Pass<V>), V>
+        requires seats { 0 < seats }
+        requires unnamed { NamesNone V.names (V.history value) }
+        ensures ok { IfOk result (λ r. (r.0.seats ≡ seats) × (r.1 ≡ first_pass r.0.name (V.history value))) }
+        ensures err { IfErr result (λ v. v ≡ value) }
+    {
+        let words = first_words(&value);
+        let about = Snapshot::of(&value);
+        let mut slots = Vec::new(alloc);
+        if let Err(failed) = slots.push(Some(value)) {
+            let AllocFailed { value } = failed;
+            slots.destroy_empty();
+            return Err(value.unwrap());
+        }
+        match Table::new(alloc, &words, slots, &about) {
+            Ok((board, seat)) => Ok((Turnstile { board, seats }, Pass { seat })),
+            Err(Refused { slots }) => Err(only(slots)),
+        }
+    }
+
+    /// Takes a turn. It waits while another pass has one.
+    pub fn take<R: Wait>(&self, rt: &R, pass: &mut Pass<V>) -> Turn<V>
+        requires name { pass.old.name ≡ self.now.name }
+        requires idle { pass.old.holds ≡ false }
+        ensures begins { IsPrefix pass.old.seen (V.history result.value) }
+        ensures own { own V.names pass.old.number (V.history result.value) ≡ own V.names pass.old.number pass.old.seen }
+        ensures joined { (k : ℕ) → Contains pass.old.joined k → own V.names k (V.history result.value) ≡ own V.names k pass.old.seen }
+        ensures pass { pass.new ≡ record pass.old { seen = V.history result.value; holds = true; words = pass.new.words } }
+        ensures words { length pass.new.words ≡ 66 }
+        ensures count { (slice_index pass.new.words 0 ≡ length (V.history result.value)) × (pass.old.counted ≤ length (V.history result.value)) }
+        ensures shown { (word : ℕ) → 0 < word → word < 65 → slice_index pass.new.words word ≡ V.published result.value word }
+        ensures loads { (word : ℕ) → 0 < word → word < 65 → greatest word pass.old.loads ≤ V.published result.value word }
+        ensures turn { IsTurnOf result pass.new }
+    {
+        self.gain(rt, &mut pass.seat);
+        let value = self.board.shared.exchange(&mut pass.seat, 0, None).unwrap();
+        Turn {
+            value,
+            taken: Snapshot::of(pass),
+        }
+    }
+
+    /// Gives the value back.
+    pub fn put(&self, pass: &mut Pass<V>, turn: Turn<V>)
+        requires name { pass.old.name ≡ self.now.name }
+        requires turn { IsTurnOf turn pass.old }
+        requires begins { IsPrefix pass.old.seen (V.history turn.value) }
+        requires names { NamesOnly V.names pass.old.number (added pass.old.seen (V.history turn.value)) }
+        requires shown { (word : ℕ) → 0 < word → word < 65 → slice_index pass.old.words word ≡ V.published turn.value word }
+        ensures pass { pass.new ≡ record pass.old { seen = V.history turn.value; holds = false; words = [] } }
+        ensures own { own V.names pass.old.number pass.new.seen ≡ own V.names pass.old.number pass.old.seen ++ own V.names pass.old.number (added pass.old.seen (V.history turn.value)) }
+    {
+        let Turn { value, taken: _ } = turn;
+        let count = value.count();
+        let shared = &self.board.shared;
+        shared.store::<Store>(&mut pass.seat, COUNT, count);
+        let before = shared.exchange(&mut pass.seat, 0, Some(value));
+        let None = before else { unreachable!() };
+        shared.store::<Leave>(&mut pass.seat, HOLDERS, 0);
+        shared.wake_one(HOLDERS);
+    }
+
+    /// Shows the number that the value of the turn has for the word.
+    pub fn publish(&self, pass: &mut Pass<V>, turn: &Turn<V>, word: u32)
+        requires name { pass.old.name ≡ self.now.name }
+        requires turn { IsTurnOf turn.now pass.old }
+        requires word { (0 < word) × (word < 65) }
+        requires rises { slice_index pass.old.words word ≤ V.published turn.now.value word }
+        ensures { pass.new ≡ record pass.old { words = slice_set pass.old.words word (V.published turn.now.value word) } }
+    {
+        let number = turn.value.published(word);
+        self.board
+            .shared
+            .store::<Store>(&mut pass.seat, word as usize, number);
+    }
+
+    /// The number in a word, by one load.
+    pub fn published(&self, pass: &mut Pass<V>, word: u32) -> u64
+        requires name { pass.old.name ≡ self.now.name }
+        requires word { (0 < word) × (word < 65) }
+        ensures pass { pass.new ≡ record pass.old { loads = pass.old.loads ++ (word, result) ∷ [] } }
+        ensures rises { greatest word pass.old.loads ≤ result }
+    {
+        self.board
+            .shared
+            .load::<LoadPublished>(&mut pass.seat, word as usize)
+    }
+
+    /// How long the history is at least, by one load.
+    pub fn counted(&self, pass: &mut Pass<V>) -> u64
+        requires { pass.old.name ≡ self.now.name }
+        ensures pass { pass.new ≡ record pass.old { counted = result } }
+        ensures rises { (pass.old.counted ≤ result) × (length pass.old.seen ≤ result) }
+    {
+        self.board.shared.load::<LoadCount>(&mut pass.seat, COUNT)
+    }
+
+    /// Makes the next pass, which has seen as much.
+    pub fn split(&self, pass: &mut Pass<V>) -> Pass<V>
+        requires name { pass.old.name ≡ self.now.name }
+        requires first { pass.old.number ≡ 0 }
+        requires idle { pass.old.holds ≡ false }
+        requires seats { pass.old.made < self.now.seats }
+        ensures pass { pass.new ≡ record pass.old { made = pass.old.made + 1 } }
+        ensures made { result ≡ new_pass pass.old }
+        ensures own { own V.names result.number result.seen ≡ [] }
+    {
+        Pass {
+            seat: self.board.shared.split_seat::<SplitPass>(&mut pass.seat),
+        }
+    }
+
+    /// Takes in what another pass has seen, and spends it.
+    pub fn join(&self, pass: &mut Pass<V>, other: Pass<V>)
+        requires name { (pass.old.name ≡ self.now.name) × (other.name ≡ self.now.name) }
+        requires idle { (pass.old.holds ≡ false) × (other.holds ≡ false) }
+        ensures pass { pass.new ≡ record pass.old { joined = pass.old.joined ++ other.number ∷ other.joined; seen = longer pass.old.seen other.seen } }
+        ensures begins { IsPrefix pass.old.seen pass.new.seen × IsPrefix other.seen pass.new.seen }
+        ensures own { own V.names pass.old.number pass.new.seen ≡ own V.names pass.old.number pass.old.seen }
+        ensures other { own V.names other.number pass.new.seen ≡ own V.names other.number other.seen }
+        ensures joined { (k : ℕ) → Contains pass.old.joined k → own V.names k pass.new.seen ≡ own V.names k pass.old.seen }
+        ensures guests { (k : ℕ) → Contains other.joined k → own V.names k pass.new.seen ≡ own V.names k other.seen }
+    {
+        let Pass { seat } = other;
+        let shared = &self.board.shared;
+        shared.join_seat::<JoinPass>(&mut pass.seat, seat);
+        shared.load::<TakeLonger>(&mut pass.seat, COUNT);
+    }
+
+    /// The value, where every other pass was joined and no turn is out.
+    pub fn close(self, pass: Pass<V>) -> V
+        requires name { pass.name ≡ self.name }
+        requires first { pass.number ≡ 0 }
+        requires idle { pass.holds ≡ false }
+        requires joined { (k : ℕ) → 0 < k → k < pass.made → Contains pass.joined k }
+        ensures { V.history result ≡ pass.seen }
+    {
+        let Turnstile { board, seats: _ } = self;
+        let Pass { seat } = pass;
+        let mut closed = board.close_with(seat);
+        let slot = closed.take(0);
+        closed.free();
+        slot.unwrap()
+    }
+
+    // Waits until word 65 is 0, makes it 1 and takes the slot.
+    fn gain<R: Wait>(&self, rt: &R, seat: &mut Place<V>)
+        requires { (seat.old.table_id ≡ self.now.name) × (seat.old.me.0.live ≡ true) × (seat.old.me.1 ≡ []) }
+        ensures { (seat.new.table_id ≡ seat.old.table_id) × ((x : V) × (seat.new.me.1 ≡ (0, Some x) ∷ []) × Gains V.history V.published V.names seat.old.me.0 seat.new.me.0 x) }
+    {
+        for _ in rt.forever() {
+            if self
+                .board
+                .shared
+                .compare_exchange::<Gain>(seat, HOLDERS, 0, 1)
+                == 0
+            {
+                return;
+            }
+            self.board.shared.park(rt, HOLDERS, 1);
+        }
+        unreachable!()
+    }
+}
