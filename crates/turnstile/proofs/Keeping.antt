@@ -10,12 +10,14 @@ use native.Mathlib.Decide.{ℕ_discrete}
 use lib.ListN.{get_elem?}
 use lib.Seq.{set-get_or}
 use prog.Atomic.{either}
+use Rattle.atomic_table.specs.Seated.{TableId}
 use Rattle.atomic_table.specs.Table.{State, Act, step, keeps, takes, gives, carried_after, Valid, stepped, opening, Allows, Splits, Joins}
 use Rattle.atomic_table.proofs.Lists.{at_set, set_here, set_else, set_again, at_longer}
 use Rattle.turnstile.specs.declared.rule.View.{View}
 use Rattle.turnstile.specs.Histories.{own, added, NamesOnly, NamesNone, longer, greatest}
 use Rattle.turnstile.specs.Rule.{opened, spent, counting_one_more, next_pass, beside, merge_of, IsGone, Knows, Fits, IsSeen, Below, Home, Out, Kept}
 use Rattle.turnstile.specs.Steps.{Seating, stored, looked, counted, left, Gains, gained, Merges, merged}
+use Rattle.turnstile.specs.Passes.{known, Closed}
 use Rattle.turnstile.proofs.Beginnings.{prefix_self, prefix_trans, prefix_shorter, prefix_whole, prefix_length, longer_is, others_same, own_between, own_none}
 use Rattle.turnstile.proofs.Words.{Rise, rise_none, rise_above, rise_set, greatest-append}
 use Rattle.turnstile.proofs.Lists.{at_inside, at_once, at_end, contains_none, contains_cases, one_value, not_true, not_both}
@@ -120,6 +122,7 @@ module _ {E : Type 0} where
 
   below_more : (words more : List ℕ) (u : View E) → Rise words more → Below words u → Below more u
   below_more words more u rise b = record {
+    known = λ word low. let r = rise word low in let l = b.known word low in omega arith;
     counted = let r = rise 0 (omega arith) in let c = b.counted in omega arith;
     loads = λ word low. let r = rise word low in let l = b.loads word low in omega arith;
   }
@@ -130,15 +133,26 @@ module _ {E : Type 0} where
       (λ (t : (j ≢ id) × (get_elem? views j ≡ some u)). below_more words more u rise (each j u t.1 on))
       (at_set views id j w u e)
 
-  -- a view with the same loads
-  below_same : (words : List ℕ) (v w : View E) → w.counted ≡ v.counted → w.loads ≡ v.loads → Below words v → Below words w
-  below_same words v w counted loads b = record {
+  -- a view with the same loads and the same words
+  below_same : (words : List ℕ) (v w : View E) → w.words ≡ v.words → w.counted ≡ v.counted → w.loads ≡ v.loads → Below words v → Below words w
+  below_same words v w known counted loads b = record {
+    known = λ word low. subst (λ l. get_or l word 0 ≤ get_or words word 0) (sym known) (b.known word low);
     counted = subst (λ n. n ≤ get_or words 0 0) (sym counted) b.counted;
     loads = λ word low. subst (λ l. greatest word l ≤ get_or words word 0) (sym loads) (b.loads word low);
   }
 
-  below_new : (words : List ℕ) (v : View E) → v.counted ≡ 0 → v.loads ≡ [] → Below words v
-  below_new words v counted loads = record {
+  -- a view that knows all words as they are
+  below_exact : (words : List ℕ) (v w : View E) → w.words ≡ words → w.counted ≡ v.counted → w.loads ≡ v.loads → Below words v → Below words w
+  below_exact words v w exact counted loads b = record {
+    known = λ word low. subst (λ l. get_or l word 0 ≤ get_or words word 0) (sym exact) (le_refl (get_or words word 0));
+    counted = subst (λ n. n ≤ get_or words 0 0) (sym counted) b.counted;
+    loads = λ word low. subst (λ l. greatest word l ≤ get_or words word 0) (sym loads) (b.loads word low);
+  }
+
+  -- a view that has made no load
+  below_new : (words : List ℕ) (v : View E) → Rise v.words words → v.counted ≡ 0 → v.loads ≡ [] → Below words v
+  below_new words v known counted loads = record {
+    known = known;
     counted = subst (λ n. n ≤ get_or words 0 0) (sym counted) (omega arith);
     loads = λ word low. subst (λ l. greatest word l ≤ get_or words word 0) (sym loads) (omega arith);
   }
@@ -280,6 +294,7 @@ module _ {V E : Type 0} (history : V → List E) (published : V → ℕ → ℕ)
         fresh = λ z k le. ap (own names k) log ∙ kept.fresh k (subst (λ m. m ≤ k) (f.made z) le);
         view = refl;
         wide = length-set s.words 65 1 ∙ kept.wide;
+        known = λ word low. let r = rise_above s.words 1 word low in let b = (kept.below id v at live).known word low in omega arith;
         count = get_or-set_other s.words 65 0 1 0 (λ e. omega arith) ∙ (h.count ∙ ap length (sym log));
         shown = λ word some_word low. get_or-set_other s.words 65 word 1 0 (λ e. omega arith) ∙ h.shown word some_word low;
         loads = λ word some_word low. let b = (kept.below id v at live).loads word low in let e = h.shown word some_word low in omega arith;
@@ -301,7 +316,7 @@ module _ {V E : Type 0} (history : V → List E) (published : V → ℕ → ℕ)
           aside = f.aside;
           gone = λ k c. gone_set s.views id k v w at live (f.gone k c);
         });
-        below = below_set s.words (set s.words 65 1) s.views id w (rise_above s.words 1) kept.below (λ _. below_same (set s.words 65 1) v w refl refl (below_more s.words (set s.words 65 1) v (rise_above s.words 1) (kept.below id v at live)));
+        below = below_set s.words (set s.words 65 1) s.views id w (rise_above s.words 1) kept.below (λ _. below_exact (set s.words 65 1) v w refl refl refl (below_more s.words (set s.words 65 1) v (rise_above s.words 1) (kept.below id v at live)));
         fresh = λ k le. kept.fresh k (subst (λ m. m ≤ k) (length-set s.views id w) le);
         seen = seen_set names kept.log s.views id v w at live (λ _. inl h.same) kept.seen;
         place = inr record {
@@ -365,7 +380,7 @@ module _ {V E : Type 0} (history : V → List E) (published : V → ℕ → ℕ)
           aside = f.aside;
           gone = λ k d. gone_set s.views id k v w at live (f.gone k d);
         });
-        below = below_set s.words (set s.words i n) s.views id w rise kept.below (λ _. below_same (set s.words i n) v w refl refl (below_more s.words (set s.words i n) v rise (kept.below id v at live)));
+        below = below_set s.words (set s.words i n) s.views id w rise kept.below (λ _. below_exact (set s.words i n) v w (ap (λ ws. set ws i n) same) refl refl (below_more s.words (set s.words i n) v rise (kept.below id v at live)));
         fresh = λ k le. kept.fresh k (subst (λ m. m ≤ k) (length-set s.views id w) le);
         seen = seen_set names kept.log s.views id v w at live (λ e. e) kept.seen;
         place = inr record {
@@ -393,9 +408,9 @@ module _ {V E : Type 0} (history : V → List E) (published : V → ℕ → ℕ)
   -- the holder gives the value back
   leaves_kept : (s : Table) (kept : Rule s) (id : ℕ) (v : View E) (x : V) → get_elem? s.views id ≡ some v → v.live ≡ true → v.holds ≡ true
       → IsPrefix v.seen (history x) → NamesOnly names v.number (added v.seen (history x)) → get_or v.words 0 0 ≡ length (history x) → ((word : ℕ) → 0 < word → word < 65 → get_or v.words word 0 ≡ published x word)
-      → Rule (stepped s 65 0 id ((0, Some x) ∷ []) (record v { seen = history x; holds = false; words = [] }) gives)
+      → Rule (stepped s 65 0 id ((0, Some x) ∷ []) (record v { seen = history x; holds = false }) gives)
   leaves_kept s kept id v x at live on begins only count shown =
-      let w : View E = record v { seen = history x; holds = false; words = [] } in
+      let w : View E = record v { seen = history x; holds = false } in
       let f = kept.each id v at live in
       let o = out_of history published kept.log s id v at on kept.place in
       let is : o.view ≡ v = holder_is history published kept.log s o id v at on in
@@ -418,7 +433,7 @@ module _ {V E : Type 0} (history : V → List E) (published : V → ℕ → ℕ)
                   (λ k d. others k (gone_apart s.views id k v at live (f.gone k (Contains-append_right v.joined v.guests k d)))) f.aside;
               gone = λ k d. gone_set s.views id k v w at live (f.gone k d);
             });
-        below = below_set s.words (set s.words 65 0) s.views id w (rise_above s.words 0) kept.below (λ _. below_same (set s.words 65 0) v w refl refl (below_more s.words (set s.words 65 0) v (rise_above s.words 0) (kept.below id v at live)));
+        below = below_set s.words (set s.words 65 0) s.views id w (rise_above s.words 0) kept.below (λ _. below_same (set s.words 65 0) v w refl refl refl (below_more s.words (set s.words 65 0) v (rise_above s.words 0) (kept.below id v at live)));
         fresh = λ k le. let far : length s.views ≤ k = subst (λ m. m ≤ k) (length-set s.views id w) le in others k (λ e. omega arith) ∙ kept.fresh k far;
         seen = record { at = id; view = w; there = set_here s.views id w inside; live = live; whole = inl refl };
         place = inl record {
@@ -439,11 +454,11 @@ module _ {V E : Type 0} (history : V → List E) (published : V → ℕ → ℕ)
       → IsPrefix v.seen (history x) → NamesOnly names v.number (added v.seen (history x)) → get_or v.words 0 0 ≡ length (history x) → ((word : ℕ) → 0 < word → word < 65 → get_or v.words word 0 ≡ published x word)
       → Allows Rule slots id (v, (0, Some x) ∷ []) 65 (λ _. 0) (λ _. left history (step slots 65 0 0 none) (v, (0, Some x) ∷ []) 0)
   leaves slots id v x live on begins only count shown s kept len at fits = (
-    record v { seen = history x; holds = false; words = [] },
+    record v { seen = history x; holds = false },
     gives,
     tt,
     leaves_kept s kept id v x at live on begins only count shown,
-    λ y e. let same : x ≡ y = one_value x y e in (ap (λ (z : V). record v { seen = history z; holds = false; words = [] }) same, refl),
+    λ y e. let same : x ≡ y = one_value x y e in (ap (λ (z : V). record v { seen = history z; holds = false }) same, refl),
   )
 
   pub leaves_as : (slots id : ℕ) (me : Seating V E) (x : V) → me.1 ≡ (0, Some x) ∷ [] → me.0.live ≡ true → me.0.holds ≡ true
@@ -478,7 +493,7 @@ module _ {V E : Type 0} (history : V → List E) (published : V → ℕ → ℕ)
           aside = record { begins = (kept.log, refl); same = λ k c. contains_none k c };
           gone = λ k d. gone_set s.views id k v w at live (f.gone k (subst (λ l. Contains l k) (append-nil (v.joined ++ v.guests)) d));
         });
-        below = below_set s.words s.words s.views id w (rise_none s.words) kept.below (λ _. below_same s.words v w refl refl (kept.below id v at live));
+        below = below_set s.words s.words s.views id w (rise_none s.words) kept.below (λ _. below_same s.words v w refl refl refl (kept.below id v at live));
         fresh = λ k le. kept.fresh k (subst (λ m. m ≤ k) (length-set s.views id w) le);
         seen = seen_set names kept.log s.views id v w at live (λ all. inl (longer_whole names kept.log v.seen v.aside f.own.begins f.aside.begins all)) kept.seen;
         place = home_set history published kept.log s id v w at idle idle kept.place;
@@ -551,8 +566,8 @@ module _ {V E : Type 0} (history : V → List E) (published : V → ℕ → ℕ)
         wide = kept.wide;
         each = splits_fit kept.log s.views id v at live is_first kept.each kept.fresh;
         below = λ j u e on. ⊎_elim
-            (λ (was : get_elem? lefts j ≡ some u). below_set s.words s.words s.views id (counting_one_more v) (rise_none s.words) kept.below (λ _. below_same s.words v (counting_one_more v) refl refl (kept.below id v at live)) j u was on)
-            (λ (t : (j ≡ length lefts) × (next_pass v ≡ u)). subst (Below s.words) t.1 (below_new s.words (next_pass v) refl refl))
+            (λ (was : get_elem? lefts j ≡ some u). below_set s.words s.words s.views id (counting_one_more v) (rise_none s.words) kept.below (λ _. below_same s.words v (counting_one_more v) refl refl refl (kept.below id v at live)) j u was on)
+            (λ (t : (j ≡ length lefts) × (next_pass v ≡ u)). subst (Below s.words) t.1 (below_new s.words (next_pass v) (kept.below id v at live).known refl refl))
             (at_end lefts (next_pass v) u j e);
         fresh = λ k le. kept.fresh k (omega arith);
         seen = record { at = r.at; view = r.view; there = at_longer lefts (next_pass v ∷ []) r.at r.view r.there; live = r.live; whole = r.whole };
@@ -626,7 +641,7 @@ module _ {V E : Type 0} (history : V → List E) (published : V → ℕ → ℕ)
             (at_set s.views id j b u t.1))
             (at_set firsts other j spent u e);
         below = below_set s.words s.words firsts other spent (rise_none s.words)
-            (below_set s.words s.words s.views id b (rise_none s.words) kept.below (λ _. below_same s.words v b refl refl (kept.below id v at live)))
+            (below_set s.words s.words s.views id b (rise_none s.words) kept.below (λ _. below_same s.words v b refl refl refl (kept.below id v at live)))
             (λ on. absurd (not_both false on refl));
         fresh = λ k le. kept.fresh k (omega arith);
         seen = joined_seen kept.log s.views id v other w at there' apart live no_aside no_aside' f.own.begins g.own.begins kept.seen;
@@ -635,7 +650,7 @@ module _ {V E : Type 0} (history : V → List E) (published : V → ℕ → ℕ)
 
   -- where every other pass was joined, the value is home, and its history is what the pass has seen
   pub ends : (s : Table) (kept : Rule s) (id : ℕ) (v : View E) → get_elem? s.views id ≡ some v → v.live ≡ true → v.holds ≡ false → v.number ≡ 0 → v.aside ≡ []
-      → ((k : ℕ) → 0 < k → k < v.made → Contains v.joined k) → (x : V) × (s.homes ≡ some (Some x) ∷ []) × (history x ≡ v.seen)
+      → ((k : ℕ) → 0 < k → k < v.made → Contains v.joined k) → (x : V) × (s.homes ≡ some (Some x) ∷ []) × ((name : TableId) → Closed history published (known name v) x)
   ends s kept id v at live idle is_first bare joined =
       let f = kept.each id v at live in
       let made : v.made ≡ length s.views = f.made is_first in
@@ -649,7 +664,12 @@ module _ {V E : Type 0} (history : V → List E) (published : V → ℕ → ℕ)
       let r = kept.seen in
       let whole : v.seen ≡ kept.log = seen_itself kept.log v bare f.own.begins (subst (λ (x : View E). (x.seen ≡ kept.log) ⊎ (x.aside ≡ kept.log)) (alone r.at r.view r.there r.live) r.whole) in
       ⊎_elim
-      (λ (h : Home history published kept.log s). (h.value, h.home, h.same ∙ sym whole))
+      (λ (h : Home history published kept.log s). (h.value, h.home, λ name. record {
+        whole = h.same ∙ sym whole;
+        known = λ word some_word low. let e = h.shown word some_word low in let b = (kept.below id v at live).known word low in omega arith;
+        loads = λ word some_word low. let e = h.shown word some_word low in let b = (kept.below id v at live).loads word low in omega arith;
+        counted = let e = h.count ∙ ap length (sym h.same) in let b = (kept.below id v at live).counted in omega arith;
+      }))
       (λ (o : Out history published kept.log s). absurd (not_both o.view.holds o.holds (ap (λ (x : View E). x.holds) (alone o.holder o.view o.there o.live) ∙ idle)))
       kept.place
 
@@ -687,10 +707,11 @@ module _ {V E : Type 0} (history : V → List E) (published : V → ℕ → ℕ)
         keeps,
         tt,
         noted s kept i id c v (v.loads ++ (i, n) ∷ []) v.counted at live record {
+          known = b.known;
           counted = b.counted;
           loads = λ word in_range. greatest-append word i n v.loads (get_or s.words word 0) (b.loads word in_range) (λ e. let same : n ≡ get_or s.words word 0 = ap (λ k. get_or s.words k 0) e in omega arith);
         },
-        (refl, refl, b.loads i low),
+        (refl, refl, b.loads i low, b.known i low),
       )
 
   -- a load of the number of entries
@@ -703,25 +724,25 @@ module _ {V E : Type 0} (history : V → List E) (published : V → ℕ → ℕ)
         record v { counted = n },
         keeps,
         tt,
-        noted s kept 0 id c v v.loads n at live record { counted = le_refl n; loads = b.loads },
+        noted s kept 0 id c v v.loads n at live record { known = b.known; counted = le_refl n; loads = b.loads },
         (refl, refl, b.counted, omega arith),
       )
 
   -- the table at the start
   pub opens : (words : List ℕ) (x : V) → length words ≡ 66 → get_or words 0 0 ≡ length (history x) → get_or words 65 0 ≡ 0 → ((word : ℕ) → 0 < word → word < 65 → get_or words word 0 ≡ published x word) → NamesNone names (history x)
-      → Rule (opening words (Some x ∷ []) (opened (history x)))
+      → Rule (opening words (Some x ∷ []) (opened (history x) words))
   opens words x wide count free shown unnamed = record {
     log = history x;
     wide = wide;
     each = one;
     below = low;
     fresh = λ k le. unnamed k;
-    seen = record { at = 0; view = opened (history x); there = refl; live = refl; whole = inl refl };
+    seen = record { at = 0; view = opened (history x) words; there = refl; live = refl; whole = inl refl };
     place = inl record { value = x; free = free; home = refl; same = refl; count = count; shown = shown; idle = off };
   }
     where
-      one : (j : ℕ) (v : View E) → get_elem? (opened (history x) ∷ []) j ≡ some v → v.live ≡ true → Fits names (history x) (opened (history x) ∷ []) j v
-      one zero v e on = subst (Fits names (history x) (opened (history x) ∷ []) 0) (some-injective (opened (history x)) v e) record {
+      one : (j : ℕ) (v : View E) → get_elem? (opened (history x) words ∷ []) j ≡ some v → v.live ≡ true → Fits names (history x) (opened (history x) words ∷ []) j v
+      one zero v e on = subst (Fits names (history x) (opened (history x) words ∷ []) 0) (some-injective (opened (history x) words) v e) record {
         number = refl;
         made = λ z. refl;
         own = knows_all names (history x) (0 ∷ []);
@@ -730,14 +751,14 @@ module _ {V E : Type 0} (history : V → List E) (published : V → ℕ → ℕ)
       }
       one (suc j) v e on = absurd (some-ne-none v (sym e))
 
-      low : (j : ℕ) (v : View E) → get_elem? (opened (history x) ∷ []) j ≡ some v → v.live ≡ true → Below words v
-      low zero v e on = subst (Below words) (some-injective (opened (history x)) v e) (below_new words (opened (history x)) refl refl)
+      low : (j : ℕ) (v : View E) → get_elem? (opened (history x) words ∷ []) j ≡ some v → v.live ≡ true → Below words v
+      low zero v e on = subst (Below words) (some-injective (opened (history x) words) v e) (below_new words (opened (history x) words) (rise_none words) refl refl)
       low (suc j) v e on = absurd (some-ne-none v (sym e))
 
-      off : (j : ℕ) (v : View E) → get_elem? (opened (history x) ∷ []) j ≡ some v → v.holds ≡ false
-      off zero v e = sym (ap (λ (u : View E). u.holds) (some-injective (opened (history x)) v e))
+      off : (j : ℕ) (v : View E) → get_elem? (opened (history x) words ∷ []) j ≡ some v → v.holds ≡ false
+      off zero v e = sym (ap (λ (u : View E). u.holds) (some-injective (opened (history x) words) v e))
       off (suc j) v e = absurd (some-ne-none v (sym e))
 
-  pub opens_as : (words : List ℕ) (slots : List (Option V)) (x y : V) → slots ≡ Some x ∷ [] → y ≡ x → length words ≡ 66 → get_or words 0 0 ≡ length (history x) → get_or words 65 0 ≡ 0 → ((word : ℕ) → 0 < word → word < 65 → get_or words word 0 ≡ published x word) → NamesNone names (history x)
-      → Rule (opening words slots (opened (history y)))
-  opens_as words slots x y only same wide count free shown unnamed = subst (λ (l : List (Option V) × V). Rule (opening words l.0 (opened (history l.1)))) (λ i. (sym only i, sym same i)) (opens words x wide count free shown unnamed)
+  pub opens_as : (words key : List ℕ) (slots : List (Option V)) (x y : V) → slots ≡ Some x ∷ [] → y ≡ x → key ≡ words → length words ≡ 66 → get_or words 0 0 ≡ length (history x) → get_or words 65 0 ≡ 0 → ((word : ℕ) → 0 < word → word < 65 → get_or words word 0 ≡ published x word) → NamesNone names (history x)
+      → Rule (opening words slots (opened (history y) key))
+  opens_as words key slots x y only same copied wide count free shown unnamed = subst (λ (l : List (Option V) × V × List ℕ). Rule (opening words l.0 (opened (history l.1) l.2))) (λ i. (sym only i, sym same i, sym copied i)) (opens words x wide count free shown unnamed)

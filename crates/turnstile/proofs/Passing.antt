@@ -1,16 +1,17 @@
 -- What holds of a pass after a call.
-use Rattle.std.proofs.Common.{◌≡◌, ℕ, ◌<◌, ◌≤◌, true, false, List, [], length, set, get_or, Option, Some, ap, sym, ◌∙◌, subst, arith, get_or-set_same, get_or-set_other}
+use Rattle.std.proofs.Common.{◌≡◌, ℕ, ◌<◌, ◌≤◌, true, false, List, [], length, set, get_or, Option, Some, ap, sym, ◌∙◌, subst, arith, length-set, get_or-set_same, get_or-set_other}
 use Rattle.std.specs.Prelude.{Contains}
 use mathlib.Core.Option.{some, none, some-injective}
 use mathlib.Core.List.{IsPrefix}
 use lib.ListN.{get_elem?}
 use Rattle.atomic_table.specs.declared.shared.Seat.{Seat}
+use Rattle.atomic_table.specs.Seated.{TableId}
 use Rattle.atomic_table.specs.Table.{Final, Seen, Allows, step}
 use Rattle.turnstile.specs.declared.rule.View.{View}
 use Rattle.turnstile.specs.Histories.{own, added, NamesOnly}
 use Rattle.turnstile.specs.Rule.{Kept}
 use Rattle.turnstile.specs.Steps.{Seating, left}
-use Rattle.turnstile.specs.Passes.{IsSound}
+use Rattle.turnstile.specs.Passes.{IsSound, known, Closed}
 use Rattle.turnstile.proofs.Beginnings.{others_same}
 use Rattle.turnstile.proofs.Lists.{one, not_both}
 use Rattle.turnstile.proofs.Keeping.{leaves, ends}
@@ -20,9 +21,9 @@ module _ {V E : Type 0} (history : V → List E) (published : V → ℕ → ℕ)
   Place = Seat (Option V) (View E)
 
   -- a pass that has put its turn
-  pub sound_put : (p q : Place) (log : List E) → IsSound names p → p.me.0.holds ≡ true → IsPrefix p.me.0.seen log → NamesOnly names p.me.0.number (added p.me.0.seen log)
-      → q.me.0 ≡ record p.me.0 { seen = log; holds = false; words = [] } → q.me.1 ≡ [] → IsSound names q
-  sound_put p q log sound on begins only is empty =
+  pub sound_put : (p q : Place) (log : List E) (n : ℕ) → IsSound names p → p.me.0.holds ≡ true → IsPrefix p.me.0.seen log → NamesOnly names p.me.0.number (added p.me.0.seen log)
+      → q.me.0 ≡ record p.me.0 { seen = log; holds = false; words = set p.me.0.words 0 n } → q.me.1 ≡ [] → IsSound names q
+  sound_put p q log n sound on begins only is empty =
       let off : q.me.0.holds ≡ false = ap (λ (v : View E). v.holds) is in
       let number : q.me.0.number ≡ p.me.0.number = ap (λ (v : View E). v.number) is in
       let made : q.me.0.made ≡ p.me.0.made = ap (λ (v : View E). v.made) is in record {
@@ -31,7 +32,7 @@ module _ {V E : Type 0} (history : V → List E) (published : V → ℕ → ℕ)
         aside = ap (λ (v : View E). v.aside) is ∙ sound.aside;
         idle = λ _. empty;
         busy = λ up. absurd (not_both q.me.0.holds up off);
-        wide = λ up. absurd (not_both q.me.0.holds up off);
+        wide = ap (λ (v : View E). length v.words) is ∙ (length-set p.me.0.words 0 n ∙ sound.wide);
         count = λ up. absurd (not_both q.me.0.holds up off);
         made = λ z. subst (λ n. 0 < n) (sym made) (sound.made (sym number ∙ z));
         fresh = λ z k le.
@@ -53,7 +54,7 @@ module _ {V E : Type 0} (history : V → List E) (published : V → ℕ → ℕ)
 
   -- the value of a closed table
   pub closes : (id : ℕ) (v : View E) (words : List ℕ) (slots : List (Option V)) (r : Option V) → Final (Seen (Kept history published names) id v) words slots → get_elem? slots 0 ≡ some r
-      → v.live ≡ true → v.holds ≡ false → v.number ≡ 0 → v.aside ≡ [] → ((k : ℕ) → 0 < k → k < v.made → Contains v.joined k) → (x : V) × (r ≡ Some x) × (history x ≡ v.seen)
+      → v.live ≡ true → v.holds ≡ false → v.number ≡ 0 → v.aside ≡ [] → ((k : ℕ) → 0 < k → k < v.made → Contains v.joined k) → (x : V) × (r ≡ Some x) × ((name : TableId) → Closed history published (known name v) x)
   closes id v words slots r final at live idle first bare joined =
       let e = ends history published names final.0 final.1.0 id v final.1.1 live idle first bare joined in
       let there = final.4 0 (Some e.0) (ap (λ l. get_elem? l 0) e.1) in

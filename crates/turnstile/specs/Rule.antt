@@ -9,9 +9,9 @@ use Rattle.turnstile.specs.declared.rule.View.{View}
 use Rattle.turnstile.specs.Histories.{own, longer, greatest}
 
 module _ {E : Type 0} where
-  -- the first view: pass 0 has seen the history
-  abbrev pub opened : List E → View E
-  opened log = record { live = true; number = 0; made = 1; joined = []; seen = log; guests = []; aside = []; loads = []; counted = 0; holds = false; words = [] }
+  -- the first view: pass 0 has seen the history and the words
+  abbrev pub opened : List E → List ℕ → View E
+  opened log words = record { live = true; number = 0; made = 1; joined = []; seen = log; guests = []; aside = []; loads = []; counted = 0; holds = false; words = words }
 
   -- the view of a pass that was joined into another
   abbrev pub spent : View E
@@ -22,7 +22,7 @@ module _ {E : Type 0} where
 
   -- the view of the pass that is made next
   abbrev pub next_pass : View E → View E
-  next_pass v = record { live = true; number = v.made; made = 0; joined = []; seen = v.seen; guests = []; aside = []; loads = []; counted = 0; holds = false; words = [] }
+  next_pass v = record { live = true; number = v.made; made = 0; joined = []; seen = v.seen; guests = []; aside = []; loads = []; counted = 0; holds = false; words = v.words }
 
   -- a view with that of another pass set aside
   abbrev pub beside : View E → View E → View E
@@ -58,8 +58,9 @@ module _ {E : Type 0} (names : E → Option ℕ) where
     pub live : view.live ≡ true
     pub whole : (view.seen ≡ log) ⊎ (view.aside ≡ log)
 
--- no word is below a number that the pass has found there
+-- no word is below a number that the pass has found there, or knows of
 pub record Below {E : Type 0} (words : List ℕ) (v : View E) : Type 0 where
+  pub known : (word : ℕ) → word < 65 → slice_index v.words word ≤ slice_index words word
   pub counted : v.counted ≤ slice_index words 0
   pub loads : (word : ℕ) → word < 65 → greatest word v.loads ≤ slice_index words word
 

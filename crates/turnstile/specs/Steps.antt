@@ -14,7 +14,7 @@ module _ {V E : Type 0} where
   stored st m r m' = (m'.0 ≡ record m.0 { words = slice_set m.0.words st.word r }) × (m'.1 ≡ m.1)
 
   abbrev pub looked : Step (Option V) → Seating V E → ℕ → Seating V E → Type 0
-  looked st m r m' = (m'.0 ≡ record m.0 { loads = m.0.loads ++ (st.word, r) ∷ [] }) × (m'.1 ≡ m.1) × (greatest st.word m.0.loads ≤ r)
+  looked st m r m' = (m'.0 ≡ record m.0 { loads = m.0.loads ++ (st.word, r) ∷ [] }) × (m'.1 ≡ m.1) × (greatest st.word m.0.loads ≤ r) × (slice_index m.0.words st.word ≤ r)
 
   abbrev pub counted : Step (Option V) → Seating V E → ℕ → Seating V E → Type 0
   counted st m r m' = (m'.0 ≡ record m.0 { counted = r }) × (m'.1 ≡ m.1) × (m.0.counted ≤ r) × (length m.0.seen ≤ r)
@@ -22,7 +22,7 @@ module _ {V E : Type 0} where
 module _ {V E : Type 0} (history : V → List E) where
   -- the history is that of the value in the slot
   abbrev pub left : Step (Option V) → Seating V E → ℕ → Seating V E → Type 0
-  left st m r m' = (x : V) → m.1 ≡ (0, Some x) ∷ [] → (m'.0 ≡ record m.0 { seen = history x; holds = false; words = [] }) × (m'.1 ≡ [])
+  left st m r m' = (x : V) → m.1 ≡ (0, Some x) ∷ [] → (m'.0 ≡ record m.0 { seen = history x; holds = false }) × (m'.1 ≡ [])
 
   -- the value's history begins with what was seen, and its entries of the pass are those that the pass had seen
   pub record Gains (published : V → ℕ → ℕ) (names : E → Option ℕ) (v w : View E) (x : V) : Type 0 where
@@ -31,6 +31,7 @@ module _ {V E : Type 0} (history : V → List E) where
     pub fresh : v.number ≡ 0 → (k : ℕ) → v.made ≤ k → own names k (history x) ≡ []
     pub view : w ≡ record v { seen = history x; holds = true; words = w.words }
     pub wide : length w.words ≡ 66
+    pub known : (word : ℕ) → word < 65 → slice_index v.words word ≤ slice_index w.words word
     pub count : slice_index w.words 0 ≡ length (history x)
     pub shown : (word : ℕ) → 0 < word → word < 65 → slice_index w.words word ≡ published x word
     pub loads : (word : ℕ) → 0 < word → word < 65 → greatest word v.loads ≤ published x word

@@ -23,5 +23,5 @@ pub record PassModel (E : Type 0) : Type 0 where
   pub counted : ℕ
   -- a turn of it is out
   pub holds : Bool
-  -- while its turn is out, what the words hold
+  -- While its turn is out, what the 66 words hold. At other times what they held when it last knew them all.
   pub words : List ℕ

@@ -32,14 +32,21 @@ pub struct View<E> {
     pub counted: u64,
     /// A turn of it is out.
     pub holds: bool,
-    /// While its turn is out, what the words hold.
+    /// While its turn is out, what the words hold. At other times what they held when it last knew them all: no word but the last has fallen since.
     pub words: LinkedList<u64>,
+}
+
+/// What a table is made with.
+#[derive(Drop)]
+pub struct Opening<V> {
+    pub value: Snapshot<V>,
+    pub words: Snapshot<[u64; WORDS]>,
 }
 
 pub(crate) type Board<V> = Table<
     Option<V>,
     View<<V as Chronicle>::Entry>,
-    Snapshot<V>,
+    Opening<V>,
     Ordered<V>,
     Global,
 >;
@@ -51,12 +58,12 @@ pub struct Ordered<V> {
     of: PhantomData<V>,
 }
 
-impl<V: Chronicle> TableRule<Option<V>, View<V::Entry>, Snapshot<V>> for Ordered<V> {
+impl<V: Chronicle> TableRule<Option<V>, View<V::Entry>, Opening<V>> for Ordered<V> {
     ghost use Rattle.turnstile.specs.Rule.{Kept, opened};
 
     ghost holds = { λ _. Kept V.history V.published V.names };
 
-    ghost first = { λ key. opened (V.history key.value) };
+    ghost first = { λ key. opened (V.history key.value.value) key.words.value };
 }
 
 /// Word 65 goes from 0 to 1, and the slot is taken.

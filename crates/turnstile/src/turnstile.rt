@@ -8,7 +8,7 @@ ghost use Rattle.turnstile.specs.Turns.{IsTurnOf};
 
 use crate::chronicle::Chronicle;
 use crate::rule::{
-    Board, COUNT, LoadCount, SplitPass, Gain, JoinPass, HOLDERS, Leave, LoadPublished, TakeLonger, Place, Store, WORDS,
+    Board, COUNT, Gain, HOLDERS, JoinPass, Leave, LoadCount, LoadPublished, Opening, Place, SplitPass, Store, TakeLonger, WORDS,
 };
 use crate::pass::{Pass, Turn};
 use atomic_table::{Refused, Table};
@@ -63,11 +63,16 @@ impl<V: Chronicle> Turnstile<V> {
     pub fn new(alloc: Global, value: V, seats: u32) -> Result<(Turnstile<V>, Pass<V>), V>
         requires seats { 0 < seats }
         requires unnamed { NamesNone V.names (V.history value) }
-        ensures ok { IfOk result (λ r. (r.0.seats ≡ seats) × (r.1 ≡ first_pass r.0.name (V.history value))) }
+        ensures ok { IfOk result (λ r. (r.0.seats ≡ seats) × (r.1 ≡ first_pass r.0.name (V.history value) r.1.words)) }
+        ensures count { IfOk result (λ r. (length r.1.words ≡ 66) × (slice_index r.1.words 0 ≡ length (V.history value))) }
+        ensures shown { IfOk result (λ r. (word : ℕ) → 0 < word → word < 65 → slice_index r.1.words word ≡ V.published value word) }
         ensures err { IfErr result (λ v. v ≡ value) }
     {
         let words = first_words(&value);
-        let about = Snapshot::of(&value);
+        let about = Opening {
+            value: Snapshot::of(&value),
+            words: Snapshot::of(&words),
+        };
         let mut slots = Vec::new(alloc);
         if let Err(failed) = slots.push(Some(value)) {
             let AllocFailed { value } = failed;
@@ -89,6 +94,7 @@ impl<V: Chronicle> Turnstile<V> {
         ensures joined { (k : ℕ) → Contains pass.old.joined k → own V.names k (V.history result.value) ≡ own V.names k pass.old.seen }
         ensures pass { pass.new ≡ record pass.old { seen = V.history result.value; holds = true; words = pass.new.words } }
         ensures words { length pass.new.words ≡ 66 }
+        ensures known { (word : ℕ) → word < 65 → slice_index pass.old.words word ≤ slice_index pass.new.words word }
         ensures count { (slice_index pass.new.words 0 ≡ length (V.history result.value)) × (pass.old.counted ≤ length (V.history result.value)) }
         ensures shown { (word : ℕ) → 0 < word → word < 65 → slice_index pass.new.words word ≡ V.published result.value word }
         ensures loads { (word : ℕ) → 0 < word → word < 65 → greatest word pass.old.loads ≤ V.published result.value word }
@@ -109,8 +115,9 @@ impl<V: Chronicle> Turnstile<V> {
         requires begins { IsPrefix pass.old.seen (V.history turn.value) }
         requires names { NamesOnly V.names pass.old.number (added pass.old.seen (V.history turn.value)) }
         requires shown { (word : ℕ) → 0 < word → word < 65 → slice_index pass.old.words word ≡ V.published turn.value word }
-        ensures pass { pass.new ≡ record pass.old { seen = V.history turn.value; holds = false; words = [] } }
+        ensures pass { pass.new ≡ record pass.old { seen = V.history turn.value; holds = false; words = slice_set pass.old.words 0 (length (V.history turn.value)) } }
         ensures own { own V.names pass.old.number pass.new.seen ≡ own V.names pass.old.number pass.old.seen ++ own V.names pass.old.number (added pass.old.seen (V.history turn.value)) }
+        ensures others { (k : ℕ) → k ≢ pass.old.number → own V.names k pass.new.seen ≡ own V.names k pass.old.seen }
     {
         let Turn { value, taken: _ } = turn;
         let count = value.count();
@@ -141,7 +148,9 @@ impl<V: Chronicle> Turnstile<V> {
         requires name { pass.old.name ≡ self.now.name }
         requires word { (0 < word) × (word < 65) }
         ensures pass { pass.new ≡ record pass.old { loads = pass.old.loads ++ (word, result) ∷ [] } }
-        ensures rises { greatest word pass.old.loads ≤ result }
+        ensures rises { (greatest word pass.old.loads ≤ result) × (slice_index pass.old.words word ≤ result) }
+        ensures greatest { greatest word pass.new.loads ≡ result }
+        ensures others { (k : ℕ) → k ≢ word → greatest k pass.new.loads ≡ greatest k pass.old.loads }
     {
         self.board
             .shared
@@ -195,7 +204,10 @@ impl<V: Chronicle> Turnstile<V> {
         requires first { pass.number ≡ 0 }
         requires idle { pass.holds ≡ false }
         requires joined { (k : ℕ) → 0 < k → k < pass.made → Contains pass.joined k }
-        ensures { V.history result ≡ pass.seen }
+        ensures history { V.history result ≡ pass.seen }
+        ensures known { (word : ℕ) → 0 < word → word < 65 → slice_index pass.words word ≤ V.published result word }
+        ensures loads { (word : ℕ) → 0 < word → word < 65 → greatest word pass.loads ≤ V.published result word }
+        ensures counted { pass.counted ≤ length (V.history result) }
     {
         let Turnstile { board, seats: _ } = self;
         let Pass { seat } = pass;
