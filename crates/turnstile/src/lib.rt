@@ -2,6 +2,7 @@
 #![tactic(auto)]
 
 mod chronicle;
+pub mod diary;
 mod turnstile;
 mod rule;
 mod pass;

@@ -2,10 +2,10 @@ use Rattle.std.proofs.Common.{◌≡◌, ℕ, ◌+◌, ◌<◌, [], ◌∷◌, �
 use Rattle.std.specs.Prelude.{Contains}
 use Rattle.turnstile.specs.Histories.{own}
 use Rattle.turnstile.specs.Views.{PassModel}
-use Rattle.turnstile.specs.declared.tests.Note.{Note}
+use Rattle.turnstile.specs.declared.diary.Note.{Note}
 use Rattle.turnstile.proofs.Lists.{contains_first}
 use Rattle.turnstile.proofs.Laws.{joins_none, joins_next}
-use Rattle.turnstile.proofs.tests.two_write.Goals as goal
+use Rattle.turnstile.proofs.diary.two_writers.Goals as goal
 
 abbrev made_of : PassModel Note → ℕ
 made_of p = p.made
@@ -30,4 +30,4 @@ returns-clause-first g c =
     let once : c.join.new.pass.joined ≡ 1 ∷ c.join-one.result.0.0.joined = ap joined_of c.join.ensures.pass ∙ (λ i. zero i ++ first.1 i ∷ c.join-one.result.0.0.joined) in
     let named = subst (λ l. Contains l 1) (sym once) (contains_first 1 c.join-one.result.0.0.joined) in
     let taken = subst (λ k. own author k c.join.new.pass.seen ≡ own author k c.join-one.result.0.0.seen) first.1 c.join.ensures.other in
-    ap (own author 1) c.close.ensures ∙ (c.join-2.ensures.joined 1 named ∙ (taken ∙ first.4))
+    ap (own author 1) c.close.ensures.history ∙ (c.join-2.ensures.joined 1 named ∙ (taken ∙ first.4))

@@ -1,9 +1,9 @@
 use Rattle.std.proofs.Common.{◌≡◌, ℕ, Option, Some, ◌++◌, refl, ap, ◌∙◌, sym, subst}
 use Rattle.turnstile.specs.Histories.{own, added, NamesOnly}
 use Rattle.turnstile.specs.Views.{PassModel}
-use Rattle.turnstile.specs.declared.tests.Note.{Note}
+use Rattle.turnstile.specs.declared.diary.Note.{Note}
 use Rattle.turnstile.proofs.Laws.{names_only_at_most_one, own_at_most_one_more}
-use Rattle.turnstile.proofs.tests.write.Goals as goal
+use Rattle.turnstile.proofs.diary.write.Goals as goal
 
 abbrev author : Note → Option ℕ
 author n = n.by

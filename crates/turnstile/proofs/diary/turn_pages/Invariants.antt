@@ -1,0 +1,11 @@
+use Rattle.std.proofs.Common.{◌≡◌, false}
+use Rattle.turnstile.proofs.diary.turn_pages.Given as goal
+
+abbrev pub invariant-loop : goal.invariant-loop
+invariant-loop g l = record {
+  name : l.pass.name ≡ l.initial.pass.name;
+  number : l.pass.number ≡ l.initial.pass.number;
+  made : l.pass.made ≡ l.initial.pass.made;
+  joined : l.pass.joined ≡ l.initial.pass.joined;
+  idle : l.pass.holds ≡ false;
+}
