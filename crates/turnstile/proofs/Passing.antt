@@ -14,7 +14,8 @@ use Rattle.turnstile.specs.Steps.{Seating, left}
 use Rattle.turnstile.specs.Passes.{IsSound, known, Closed}
 use Rattle.turnstile.proofs.Beginnings.{others_same}
 use Rattle.turnstile.proofs.Lists.{one, not_both}
-use Rattle.turnstile.proofs.Keeping.{leaves, ends}
+use Rattle.turnstile.proofs.Turning.{leaves}
+use Rattle.turnstile.proofs.Ending.{ends}
 
 module _ {V E : Type 0} (history : V → List E) (published : V → ℕ → ℕ) (names : E → Option ℕ) where
   abbrev Place : Type 0

@@ -1,5 +1,5 @@
 -- A pass as contracts see it.
-use Rattle.std.specs.Prelude.{◌≡◌, ℕ, ◌<◌, ◌≤◌, true, false, List, [], ◌∷◌, length, slice_index, Option, None}
+use Rattle.std.specs.Prelude.{◌≡◌, ℕ, ◌<◌, ◌≤◌, true, false, List, [], ◌∷◌, length, slice_index, Contains, Option, None}
 use Rattle.atomic_table.specs.Seated.{TableId}
 use Rattle.atomic_table.specs.declared.shared.Seat.{Seat}
 use Rattle.turnstile.specs.declared.rule.View.{View}
@@ -19,6 +19,10 @@ first_pass name log words = record { name = name; number = 0; made = 1; joined =
 -- the pass that is made next
 abbrev pub new_pass : {E : Type 0} → PassModel E → PassModel E
 new_pass p = record { name = p.name; number = p.made; made = 0; joined = []; seen = p.seen; loads = []; counted = 0; holds = false; words = p.words }
+
+-- every pass below n but pass 0 was joined
+abbrev pub JoinedBelow : ℕ → List ℕ → Type 0
+JoinedBelow n joined = (k : ℕ) → 0 < k → k < n → Contains joined k
 
 -- what pass 0, which has joined all others, knows of the value
 pub record Closed {V E : Type 0} (history : V → List E) (published : V → ℕ → ℕ) (p : PassModel E) (x : V) : Type 0 where

@@ -3,7 +3,7 @@ ghost use Rattle.std.specs.Prelude.{◌≡◌, ℕ, ◌+◌, ◌<◌, ◌≤◌,
 ghost use mathlib.Core.List.{IsPrefix};
 ghost use Rattle.turnstile.specs.Histories.{own, added, NamesOnly, NamesNone, longer, greatest};
 ghost use Rattle.turnstile.specs.Steps.{Gains};
-ghost use Rattle.turnstile.specs.Passes.{first_pass, new_pass};
+ghost use Rattle.turnstile.specs.Passes.{first_pass, new_pass, JoinedBelow};
 ghost use Rattle.turnstile.specs.Turns.{IsTurnOf};
 
 use crate::chronicle::Chronicle;
@@ -138,9 +138,8 @@ impl<V: Chronicle> Turnstile<V> {
         ensures { pass.new ≡ record pass.old { words = slice_set pass.old.words word (V.published turn.now.value word) } }
     {
         let number = turn.value.published(word);
-        self.board
-            .shared
-            .store::<Store>(&mut pass.seat, word as usize, number);
+        let shared = &self.board.shared;
+        shared.store::<Store>(&mut pass.seat, word as usize, number);
     }
 
     /// The number in a word, by one load.
@@ -152,9 +151,8 @@ impl<V: Chronicle> Turnstile<V> {
         ensures greatest { greatest word pass.new.loads ≡ result }
         ensures others { (k : ℕ) → k ≢ word → greatest k pass.new.loads ≡ greatest k pass.old.loads }
     {
-        self.board
-            .shared
-            .load::<LoadPublished>(&mut pass.seat, word as usize)
+        let shared = &self.board.shared;
+        shared.load::<LoadPublished>(&mut pass.seat, word as usize)
     }
 
     /// How long the history is at least, by one load.
@@ -203,7 +201,7 @@ impl<V: Chronicle> Turnstile<V> {
         requires name { pass.name ≡ self.name }
         requires first { pass.number ≡ 0 }
         requires idle { pass.holds ≡ false }
-        requires joined { (k : ℕ) → 0 < k → k < pass.made → Contains pass.joined k }
+        requires joined { JoinedBelow pass.made pass.joined }
         ensures history { V.history result ≡ pass.seen }
         ensures known { (word : ℕ) → 0 < word → word < 65 → slice_index pass.words word ≤ V.published result word }
         ensures loads { (word : ℕ) → 0 < word → word < 65 → greatest word pass.loads ≤ V.published result word }

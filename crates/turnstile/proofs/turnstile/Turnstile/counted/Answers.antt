@@ -1,5 +1,5 @@
 use Rattle.std.proofs.Common.{rules}
-use Rattle.turnstile.proofs.Keeping.{counts}
+use Rattle.turnstile.proofs.Loading.{counts}
 use Rattle.turnstile.proofs.turnstile.Turnstile.counted.Goals as goal
 
 pub load-requires : goal.load-requires

@@ -1,5 +1,5 @@
 use Rattle.std.proofs.Common.{rules, ap, ◌∙◌}
-use Rattle.turnstile.proofs.Keeping.{gains_as}
+use Rattle.turnstile.proofs.Turning.{gains_as}
 use Rattle.turnstile.proofs.turnstile.Turnstile.gain.Goals as goal
 
 pub compare_exchange-requires : goal.compare_exchange-requires

@@ -6,7 +6,7 @@ use Rattle.turnstile.specs.Rule.{beside}
 use Rattle.turnstile.specs.Steps.{Merges}
 use Rattle.turnstile.specs.Views.{PassModel}
 use Rattle.turnstile.proofs.Lists.{contains_rest}
-use Rattle.turnstile.proofs.Keeping.{joins, merges}
+use Rattle.turnstile.proofs.Sharing.{joins, merges}
 use Rattle.turnstile.proofs.turnstile.Turnstile.join.Goals as goal
 
 pub join_seat-requires : goal.join_seat-requires

@@ -1,5 +1,5 @@
 use Rattle.std.proofs.Common.{rules}
-use Rattle.turnstile.proofs.Keeping.{opens_as}
+use Rattle.turnstile.proofs.Ending.{opens_as}
 use Rattle.turnstile.proofs.turnstile.Turnstile.new.Goals as goal
 
 pub new-requires : goal.new-requires

@@ -1,6 +1,6 @@
 use Rattle.std.proofs.Common.{◌≡◌, ◌≤◌, true, get_or, rules, ap, sym, ◌∙◌, subst, arith}
 use Rattle.turnstile.specs.Views.{PassModel}
-use Rattle.turnstile.proofs.Keeping.{stores}
+use Rattle.turnstile.proofs.Turning.{stores}
 use Rattle.turnstile.proofs.turnstile.Turnstile.publish.Goals as goal
 
 pub store-requires : goal.store-requires

@@ -3,7 +3,7 @@ use Rattle.turnstile.specs.declared.rule.View.{View}
 use Rattle.turnstile.specs.Histories.{greatest}
 use Rattle.turnstile.specs.Views.{PassModel}
 use Rattle.turnstile.proofs.Words.{greatest_last, greatest_else}
-use Rattle.turnstile.proofs.Keeping.{looks}
+use Rattle.turnstile.proofs.Loading.{looks}
 use Rattle.turnstile.proofs.turnstile.Turnstile.published.Goals as goal
 
 pub load-requires : goal.load-requires

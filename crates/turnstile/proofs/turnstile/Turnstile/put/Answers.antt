@@ -6,7 +6,7 @@ use Rattle.turnstile.specs.Histories.{own, added, NamesOnly}
 use Rattle.turnstile.specs.Views.{PassModel}
 use Rattle.turnstile.proofs.Beginnings.{prefix_length}
 use Rattle.turnstile.proofs.Beginnings.{others_same}
-use Rattle.turnstile.proofs.Keeping.{stores}
+use Rattle.turnstile.proofs.Turning.{stores}
 use Rattle.turnstile.proofs.Passing.{sound_put, puts}
 use Rattle.turnstile.proofs.turnstile.Turnstile.put.Goals as goal
 

@@ -1,6 +1,6 @@
 use Rattle.std.proofs.Common.{rules, ap, ◌∙◌}
 use Rattle.turnstile.specs.Views.{PassModel}
-use Rattle.turnstile.proofs.Keeping.{splits}
+use Rattle.turnstile.proofs.Sharing.{splits}
 use Rattle.turnstile.proofs.turnstile.Turnstile.split.Goals as goal
 
 pub split_seat-requires : goal.split_seat-requires
