@@ -1,26 +1,15 @@
 -- Where the value is, where a pass changes its view.
-use Rattle.std.proofs.Common.{◌≡◌, ◌≢◌, ℕ, zero, suc, ◌+◌, ◌<◌, ◌≤◌, ◌⊎◌, true, false, List, [], ◌∷◌, ◌++◌, length, get_or, set, Option, Some, refl, ap, sym, ◌∙◌, subst, inl, inr, ⊎_elim, arith, length-append, length-set, get_or-set_other, get_or-set_same, eqb, le_refl}
-use Rattle.std.specs.Prelude.{Contains}
-use Rattle.std.proofs.lemmas.List.{append-nil}
-use Rattle.std.proofs.lemmas.List.Elements.{Contains-append_left, Contains-append_right, Contains-append_cases}
+use Rattle.std.proofs.Common.{◌≡◌, ◌≢◌, ℕ, ◌⊎◌, true, false, List, [], ◌∷◌, ◌++◌, length, get_or, set, Option, ap, sym, ◌∙◌, subst, inl, inr, ⊎_elim}
 use mathlib.Core.Logic.{dite}
-use mathlib.Core.Option.{some, none, some-injective, some-ne-none}
-use mathlib.Core.List.{IsPrefix}
+use mathlib.Core.Option.{some}
 use native.Mathlib.Decide.{ℕ_discrete}
 use lib.ListN.{get_elem?}
 use lib.Seq.{set-get_or}
-use prog.Atomic.{either}
-use Rattle.atomic_table.specs.Seated.{TableId}
-use Rattle.atomic_table.specs.Table.{State, Act, step, keeps, takes, gives, carried_after, Valid, stepped, opening, Allows, Splits, Joins}
+use Rattle.atomic_table.specs.Table.{State, keeps, stepped}
 use Rattle.atomic_table.proofs.Lists.{at_set, set_here, set_else, set_again, at_longer}
 use Rattle.turnstile.specs.declared.rule.View.{View}
-use Rattle.turnstile.specs.Histories.{own, added, NamesOnly, NamesNone, longer, greatest}
-use Rattle.turnstile.specs.Rule.{opened, spent, counting_one_more, next_pass, beside, merge_of, IsGone, Knows, Fits, IsSeen, Below, Home, Out, Kept}
-use Rattle.turnstile.specs.Steps.{Seating, stored, looked, counted, left, Gains, gained, Merges, merged}
-use Rattle.turnstile.specs.Passes.{known, Closed}
-use Rattle.turnstile.proofs.Beginnings.{prefix_self, prefix_trans, prefix_shorter, prefix_whole, prefix_length, longer_is, others_same, own_between, own_none}
-use Rattle.turnstile.proofs.Words.{Rise, rise_none, rise_above, rise_set, greatest-append}
-use Rattle.turnstile.proofs.Lists.{at_inside, at_once, at_end, contains_none, contains_cases, one_value, not_true, not_both}
+use Rattle.turnstile.specs.Rule.{Home, Out}
+use Rattle.turnstile.proofs.Lists.{at_inside, at_once, at_end, not_true, not_both}
 
 module _ {V E : Type 0} (history : V → List E) (published : V → ℕ → ℕ) where
   abbrev pub St : Type 0

@@ -7,17 +7,18 @@ ghost use Rattle.turnstile.specs.Passes.{first_pass, new_pass, JoinedBelow};
 ghost use Rattle.turnstile.specs.Turns.{IsTurnOf};
 
 use crate::chronicle::Chronicle;
-use crate::rule::{
-    Board, COUNT, Gain, HOLDERS, JoinPass, Leave, LoadCount, LoadPublished, Opening, Place, SplitPass, Store, TakeLonger, WORDS,
-};
 use crate::pass::{Pass, Turn};
+use crate::rule::{
+    Board, COUNT, Gain, HOLDERS, JoinPass, Leave, LoadCount, LoadPublished, Opening, Place,
+    SplitPass, Store, TakeLonger, WORDS,
+};
 use atomic_table::{Refused, Table};
 use std::alloc::{AllocFailed, Global};
 use std::marker::Model;
 use std::snapshot::Snapshot;
 use std::sync::Wait;
 
-/// A value that one pass at a time may have.
+/// A value that one pass at a time may have, with 64 published numbers that are read without waiting. It is a table of one slot, which has the value, and 66 words.
 #[derive(Drop)]
 pub struct Turnstile<V: Chronicle> {
     board: Board<V>,
@@ -59,7 +60,12 @@ fn only<V>(mut slots: Vec<Option<V>>) -> V
 }
 
 impl<V: Chronicle> Turnstile<V> {
-    /// A turnstile with its pass 0, for at most `seats` passes. Where there is no memory, the value comes back.
+    /// A turnstile with its pass 0, for at most `seats` passes, which has seen the value's history. No entry may name a pass yet.
+    /// The words begin with the number of the history's entries and with the value's published numbers.
+    ///
+    /// # Errors
+    ///
+    /// The value comes back where there is no memory.
     pub fn new(alloc: Global, value: V, seats: u32) -> Result<(Turnstile<V>, Pass<V>), V>
         requires seats { 0 < seats }
         requires unnamed { NamesNone V.names (V.history value) }
@@ -85,7 +91,9 @@ impl<V: Chronicle> Turnstile<V> {
         }
     }
 
-    /// Takes a turn. It waits while another pass has one.
+    /// Takes a turn: the value is with the pass until `put`. It waits while another pass has a turn, and may wait forever.
+    /// The history begins with all that the pass has seen, and its entries that name the pass, or one that was joined into it, are those that it had seen.
+    /// Each published number of the value is what its word holds, and not below what the pass knew of the word.
     pub fn take<R: Wait>(&self, rt: &R, pass: &mut Pass<V>) -> Turn<V>
         requires name { pass.old.name ≡ self.now.name }
         requires idle { pass.old.holds ≡ false }
@@ -108,7 +116,8 @@ impl<V: Chronicle> Turnstile<V> {
         }
     }
 
-    /// Gives the value back.
+    /// Gives the value back. It does not wait and takes no memory.
+    /// The history may only have grown, by entries that name this pass or none, and each published number must be what its word holds.
     pub fn put(&self, pass: &mut Pass<V>, turn: Turn<V>)
         requires name { pass.old.name ≡ self.now.name }
         requires turn { IsTurnOf turn pass.old }
@@ -129,7 +138,8 @@ impl<V: Chronicle> Turnstile<V> {
         shared.wake_one(HOLDERS);
     }
 
-    /// Shows the number that the value of the turn has for the word.
+    /// Stores in a word, from 1 to 64, the number that the turn's value has for it, which must not be below what the word holds.
+    /// From then on every pass can find it. It does not wait and takes no memory.
     pub fn publish(&self, pass: &mut Pass<V>, turn: &Turn<V>, word: u32)
         requires name { pass.old.name ≡ self.now.name }
         requires turn { IsTurnOf turn.now pass.old }
@@ -142,7 +152,8 @@ impl<V: Chronicle> Turnstile<V> {
         shared.store::<Store>(&mut pass.seat, word as usize, number);
     }
 
-    /// The number in a word, by one load.
+    /// The number in a word, from 1 to 64, by one load. It does not wait, also while another pass has a turn, and takes no memory.
+    /// It is not below what the pass found there before, and no later turn of the pass finds less.
     pub fn published(&self, pass: &mut Pass<V>, word: u32) -> u64
         requires name { pass.old.name ≡ self.now.name }
         requires word { (0 < word) × (word < 65) }
@@ -155,7 +166,8 @@ impl<V: Chronicle> Turnstile<V> {
         shared.load::<LoadPublished>(&mut pass.seat, word as usize)
     }
 
-    /// How long the history is at least, by one load.
+    /// The number of entries that the history has at least, by one load. It does not wait and takes no memory.
+    /// It counts at least all that the pass has seen, and no later turn of the pass finds fewer.
     pub fn counted(&self, pass: &mut Pass<V>) -> u64
         requires { pass.old.name ≡ self.now.name }
         ensures pass { pass.new ≡ record pass.old { counted = result } }
@@ -164,7 +176,8 @@ impl<V: Chronicle> Turnstile<V> {
         self.board.shared.load::<LoadCount>(&mut pass.seat, COUNT)
     }
 
-    /// Makes the next pass, which has seen as much.
+    /// Makes the next pass, out of pass 0. It has seen as much as pass 0, has no entry and has made no load.
+    /// The first call gives number 1, the next number 2, and so on. It takes no memory.
     pub fn split(&self, pass: &mut Pass<V>) -> Pass<V>
         requires name { pass.old.name ≡ self.now.name }
         requires first { pass.old.number ≡ 0 }
@@ -179,7 +192,8 @@ impl<V: Chronicle> Turnstile<V> {
         }
     }
 
-    /// Takes in what another pass has seen, and spends it.
+    /// Takes in what another pass has seen, and spends that pass. The loads stay those of the pass that is kept. It takes no memory.
+    /// The entries that name the other pass stay, from now on, those that it had seen.
     pub fn join(&self, pass: &mut Pass<V>, other: Pass<V>)
         requires name { (pass.old.name ≡ self.now.name) × (other.name ≡ self.now.name) }
         requires idle { (pass.old.holds ≡ false) × (other.holds ≡ false) }
@@ -196,7 +210,7 @@ impl<V: Chronicle> Turnstile<V> {
         shared.load::<TakeLonger>(&mut pass.seat, COUNT);
     }
 
-    /// The value, where every other pass was joined and no turn is out.
+    /// The value, once every other pass was joined into pass 0 and no turn is out. Its history is exactly what pass 0 has seen.
     pub fn close(self, pass: Pass<V>) -> V
         requires name { pass.name ≡ self.name }
         requires first { pass.number ≡ 0 }

@@ -27,6 +27,6 @@ returns g c =
     (subst (λ (p : PassModel g.row.V-Entry.Denot). (k : ℕ) → 0 < k → k < p.made → Contains p.joined k) (sym is) c.requires.joined) in
     let same : value.0 ≡ c.unwrap.result = cc (value.1, c.unwrap.ensures) in
     let all : Closed g.V.Chronicle.history g.V.Chronicle.published c.args.pass c.unwrap.result =
-        subst (λ (p : PassModel g.row.V-Entry.Denot). Closed g.V.Chronicle.history g.V.Chronicle.published p c.unwrap.result) is
-        (subst (Closed g.V.Chronicle.history g.V.Chronicle.published (shown c.pass.inside.seat)) same (value.2 c.pass.inside.seat.table_id)) in
+    subst (λ (p : PassModel g.row.V-Entry.Denot). Closed g.V.Chronicle.history g.V.Chronicle.published p c.unwrap.result) is
+    (subst (Closed g.V.Chronicle.history g.V.Chronicle.published (shown c.pass.inside.seat)) same (value.2 c.pass.inside.seat.table_id)) in
     record { history = all.whole; known = all.known; loads = all.loads; counted = all.counted }

@@ -1,4 +1,4 @@
-use Rattle.std.proofs.Common.{rules, ◌≡◌, ap, ◌∙◌}
+use Rattle.std.proofs.Common.{rules, ap, ◌∙◌}
 use Rattle.turnstile.specs.declared.rule.View.{View}
 use Rattle.turnstile.specs.Histories.{greatest}
 use Rattle.turnstile.specs.Views.{PassModel}
