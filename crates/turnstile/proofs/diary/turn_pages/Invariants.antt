@@ -1,4 +1,5 @@
-use Rattle.std.proofs.Common.{◌≡◌, false}
+use Rattle.std.proofs.Common.{◌≡◌, ◌+◌, ◌≤◌, false}
+use Rattle.std.specs.Prelude.{min, slice_index}
 use Rattle.turnstile.proofs.diary.turn_pages.Given as goal
 
 abbrev pub invariant-loop : goal.invariant-loop
@@ -8,4 +9,5 @@ invariant-loop g l = record {
   made : l.pass.made ≡ l.initial.pass.made;
   joined : l.pass.joined ≡ l.initial.pass.joined;
   idle : l.pass.holds ≡ false;
+  page : min (slice_index l.initial.pass.words 1 + l.counter) 18446744073709551615 ≤ slice_index l.pass.words 1;
 }
