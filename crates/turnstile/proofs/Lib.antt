@@ -1,0 +1,11 @@
+pub mod Beginnings
+pub mod Lists
+pub mod Words
+pub mod Known
+pub mod Places
+pub mod Turning
+pub mod Sharing
+pub mod Loading
+pub mod Ending
+pub mod Passing
+pub mod Laws
