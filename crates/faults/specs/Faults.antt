@@ -1,5 +1,5 @@
 -- Faults are counted, and an answer that blames a fault comes only where the count rose in the call.
-use Rattle.std.specs.Prelude.{◌≡◌, ℕ, ◌+◌, ◌-◌, ◌^◌, ◌≤◌, min, Result, OnErr}
+use Rattle.std.specs.Prelude.{ℕ, ◌+◌, ◌-◌, ◌^◌, ◌≤◌, min, Result, OnErr}
 
 -- the count rose; a count that is stored stands still at its last value, which counts as risen
 abbrev pub Rose : ℕ → ℕ → Type 0

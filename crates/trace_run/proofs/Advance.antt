@@ -1,11 +1,11 @@
 -- A text that is read line by line.
-use Rattle.std.proofs.Common.{◌≡◌, ◌≢◌, ℕ, ◌+◌, ◌-◌, ◌<◌, ◌≤◌, ◌==◌, List, [], ◌∷◌, ◌++◌, length, get_or, take, drop, map, true, refl, sym, ap, ◌∙◌, subst, arith, add-one}
-use Rattle.std.specs.List.{slice_split, join_with_byte}
+use Rattle.std.proofs.Common.{◌≡◌, ◌≢◌, ℕ, ◌+◌, ◌-◌, ◌<◌, List, [], ◌∷◌, ◌++◌, length, get_or, drop, map, true, refl, sym, ap, ◌∙◌, subst, arith}
+use Rattle.std.specs.List.{join_with_byte}
 use Rattle.std.proofs.lemmas.List.Splits.{join_with_byte-slice_split}
-use Rattle.std.proofs.lemmas.List.{get_or-drop, drop-drop, length-drop, drop_more}
+use Rattle.std.proofs.lemmas.List.{get_or-drop, drop-drop, length-drop}
 use Rattle.trace_run.specs.declared.calls.Call.{Call}
 use Rattle.trace_run.specs.declared.text.Next.TheVariants.{Other}
-use Rattle.trace_run.specs.Group.{Group, is_allowed}
+use Rattle.trace_run.specs.Group.{is_allowed}
 use Rattle.trace_run.specs.Model.{groups_after, ready}
 use Rattle.trace_run.specs.Words.{Line, lines_of, words_of, IsCall, call_line}
 use Rattle.trace_run.specs.Trace.{opening_lines, end_line, empty_line, IsTrace, IsFirstFault, IsNext}

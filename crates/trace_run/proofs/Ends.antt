@@ -1,5 +1,5 @@
 -- How a run ends, by what it has to say and what the sink took of it.
-use Rattle.std.proofs.Common.{◌≡◌, ◌≢◌, ◌⊎◌, ℕ, ◌+◌, ◌<◌, ◌≤◌, Bool, true, false, List, [], ◌++◌, length, take, Option, Some, None, refl, sym, ap, ◌∙◌, subst, arith, inl, inr, length-append}
+use Rattle.std.proofs.Common.{◌≡◌, ◌≢◌, ◌⊎◌, ℕ, ◌<◌, ◌≤◌, true, false, List, ◌++◌, length, take, Option, Some, None, refl, sym, ap, ◌∙◌, subst, arith, inl, inr, length-append}
 use Rattle.std.proofs.lemmas.List.{append-nil}
 use Rattle.std.specs.Io.KnownBytes.{Appends, Consumes, IsAtEnd}
 use Rattle.trace_io.specs.declared.status.Status.{Status}
@@ -12,7 +12,7 @@ use Rattle.trace_run.specs.declared.once.Said.{Said}
 use Rattle.trace_run.specs.declared.once.Said.TheVariants as said
 use Rattle.trace_run.specs.declared.replies.Tail.TheVariants.{End, Lost}
 use Rattle.trace_run.specs.Trace.{IsTrace, IsFirstFault}
-use Rattle.trace_run.specs.Once.{SpellsOnce, Ran, RanWhole, Answered, WasLost, IsRefusal, Refused, IsWritten, WasCutOff, IsSaid, Says, Puts, text_of, status_of, has_text, usage_line, MayAnswer, MayRefuse, MayRefuseLong}
+use Rattle.trace_run.specs.Once.{SpellsOnce, Ran, Answered, WasLost, IsRefusal, Refused, IsWritten, WasCutOff, IsSaid, Says, Puts, text_of, status_of, has_text, usage_line, MayAnswer, MayRefuse, MayRefuseLong}
 use Rattle.trace_run.proofs.Form.{exclusive, first_fault_once}
 
 -- a text that was put is said

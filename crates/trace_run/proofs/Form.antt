@@ -1,5 +1,5 @@
 -- The lines of a text against the form of a trace.
-use Rattle.std.proofs.Common.{◌≡◌, ◌≢◌, ℕ, zero, suc, ◌+◌, ◌-◌, ◌<◌, ◌≤◌, true, List, [], ◌∷◌, ◌++◌, length, get_or, take, drop, map, refl, sym, ap, ◌∙◌, subst, arith, rules, append_assoc, length-append, add-one, Bor, ◌==◌, Result, Err, inl, inr}
+use Rattle.std.proofs.Common.{◌≡◌, ◌≢◌, ℕ, zero, suc, ◌+◌, ◌-◌, ◌<◌, ◌≤◌, true, List, [], ◌∷◌, ◌++◌, length, get_or, take, drop, map, refl, sym, ap, ◌∙◌, subst, arith, append_assoc, length-append, add-one, Bor, ◌==◌, Result, Err, inl, inr}
 use Rattle.std.proofs.Math.Seq.{split_at, drop-cons}
 use Rattle.std.proofs.lemmas.List.{take-append-drop, take_more, take_more_same, get_or_append_left, get_or-take, length-map, length-take, drop_all, append-nil, map-append, get_or-map, take-map, take-append-le}
 use Rattle.std.specs.List.{slice_split}
@@ -14,7 +14,7 @@ use Rattle.trace_run.specs.Group.{Group, is_allowed, group_after}
 use Rattle.trace_run.specs.Model.{AreAllowedFrom, AreAllowed, groups_after, ready}
 use Rattle.trace_run.specs.Words.{Line, lines_of, words_of, IsCall, call_line}
 use Rattle.trace_run.specs.Trace.{opening_lines, end_line, empty_line, trace_lines, IsTrace, IsBeginning, IsFirstFault, IsNext}
-use Rattle.trace_run.proofs.Spelling.{MeansSame, means_same, end_is_no_call}
+use Rattle.trace_run.proofs.Spelling.{means_same, end_is_no_call}
 
 head_same : (a b : Line) (ls ms : List Line) → ◌≡◌ {A = List Line} (a ∷ ls) (b ∷ ms) → a ≡ b
 head_same a b ls ms e = ap (λ (l : List Line). get_or l 0 []) e

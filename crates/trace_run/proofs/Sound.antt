@@ -1,5 +1,5 @@
 -- The state of a group stays sound.
-use Rattle.std.proofs.Common.{◌≡◌, ◌≢◌, ℕ, zero, suc, ◌+◌, ◌-◌, ◌≤◌, ◌<◌, ◌^◌, ◌==◌, ◌&&◌, Bool, true, false, cond, List, [], ◌∷◌, ◌++◌, length, map, fold, take, drop, get_or, add-one, nat_lt, nat_le, Option, Some, None, IfSome, is_some, is_none, refl, sym, ap, ◌∙◌, subst, arith, inl, inr}
+use Rattle.std.proofs.Common.{◌≡◌, ℕ, suc, ◌+◌, ◌≤◌, ◌<◌, ◌^◌, ◌==◌, ◌&&◌, Bool, true, false, cond, List, [], ◌∷◌, ◌++◌, length, fold, take, drop, get_or, add-one, nat_lt, nat_le, Option, Some, None, IfSome, is_some, is_none, refl, sym, ap, ◌∙◌, subst, arith, inl, inr}
 use Rattle.std.specs.Option.{option_map_or}
 use Rattle.std.proofs.lemmas.Bool.{cases_eq, eqb-true}
 use Rattle.std.proofs.lemmas.Bool.Decides.{nat_tests}
@@ -14,7 +14,7 @@ use Rattle.trace_run.specs.declared.calls.Entry.{Entry}
 use Rattle.trace_run.specs.declared.group.Mapped.{Mapped}
 use Rattle.trace_run.specs.declared.group.Buffer.{Buffer}
 use Rattle.trace_run.specs.Words.{IsCall}
-use Rattle.trace_run.specs.Group.{Group, bound, entry, with_entry, bound_buffer, is_allowed, with_name, change, group_after, map_start}
+use Rattle.trace_run.specs.Group.{bound, entry, with_entry, bound_buffer, is_allowed, with_name, change, group_after, map_start}
 use Rattle.trace_run.proofs.Tables.{yes, no, entry_at}
 use Rattle.trace_run.specs.Model.{State, Contents, IsSound, IsLegal, IsLegalFrom, AreAllowedFrom, Answers, opening_state, opening_calls, opening_history, ready, state_after, contents_after}
 use Rattle.trace_run.specs.Stands.{state_of, AreEntriesOf}

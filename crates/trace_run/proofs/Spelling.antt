@@ -1,11 +1,11 @@
 -- What the words of a line say of the call that they spell.
-use Rattle.std.proofs.Common.{◌≡◌, ◌≢◌, ◌↔◌, ◌==◌, Bool, false, ◌&&◌, nat_lt, is_none, None, IsTrue, ℕ, ◌+◌, ◌*◌, ◌<◌, ◌≤◌, ◌^◌, List, [], ◌∷◌, ◌++◌, length, get_or, codes, refl, sym, ap, ◌∙◌, arith, length-append}
+use Rattle.std.proofs.Common.{◌≡◌, ◌≢◌, ◌↔◌, ◌==◌, Bool, false, ◌&&◌, nat_lt, is_none, None, IsTrue, ℕ, ◌*◌, ◌<◌, ◌≤◌, ◌^◌, List, [], ◌∷◌, length, get_or, codes, refl, sym, ap, ◌∙◌, arith}
 use Rattle.std.specs.Fmt.{decimal}
 use Rattle.std.proofs.lemmas.Fmt.{decimal_injective}
 use Rattle.trace_run.specs.declared.calls.Target.{Target}
 use Rattle.trace_run.specs.declared.calls.Call.{Call}
 use Rattle.trace_run.specs.declared.calls.Call.TheVariants.{CreateContext, MakeCurrent, Bind, Data, Map, Read, Unmap}
-use Rattle.trace_run.specs.Hex.{hex, hex_pair}
+use Rattle.trace_run.specs.Hex.{hex}
 use Rattle.std.specs.Option.{option_map_or}
 use Rattle.std.specs.List.{join_with_byte, slice_split}
 use Rattle.std.proofs.lemmas.List.Splits.{join_with_byte-slice_split}

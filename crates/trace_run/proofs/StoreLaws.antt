@@ -1,9 +1,7 @@
 -- Stores of buffers against a device.
-use Rattle.std.proofs.Common.{◌≡◌, ◌≢◌, ℕ, zero, suc, ◌+◌, ◌≤◌, ◌<◌, ◌==◌, Bool, true, false, cond, List, [], ◌∷◌, ◌++◌, length, take, drop, Option, Some, None, option_map, IsSome, unwrap_or, refl, sym, ap, ◌∙◌, subst, arith, inl, inr, nat_cmp, Result, Ok, Err, OnOk, OnErr}
-use Rattle.std.specs.List.{sum_by}
-use Rattle.std.specs.Map.{lookup, values_of}
+use Rattle.std.proofs.Common.{◌≡◌, ◌≢◌, ℕ, zero, suc, ◌+◌, ◌≤◌, ◌<◌, ◌==◌, Bool, true, false, cond, List, [], ◌∷◌, ◌++◌, length, take, drop, Option, Some, None, IsSome, refl, sym, ap, ◌∙◌, subst, arith, inl, inr, nat_cmp, Result, Ok, Err, OnOk, OnErr}
+use Rattle.std.specs.Map.{values_of}
 use Rattle.std.specs.BTreeMap.{is_at}
-use Rattle.std.specs.Option.{option_map_or}
 use Rattle.std.proofs.lemmas.Option.{none-some, same_Some}
 use Rattle.std.proofs.lemmas.Bool.{cases_eq}
 use Rattle.std.proofs.lemmas.List.Sums.{sum_by-cons}
@@ -12,15 +10,15 @@ use Rattle.std.proofs.lemmas.List.{append-nil, drop_all}
 use Rattle.cells.specs.Contents.{Agrees, overwritten, part}
 use Rattle.vk_types.specs.declared.handles.HandleId.{HandleId}
 use Rattle.vk_types.specs.declared.handles.Kind.{Kind}
-use Rattle.vk_types.specs.declared.handles.Kind.TheVariants.{Buffer, Image}
+use Rattle.vk_types.specs.declared.handles.Kind.TheVariants.{Buffer}
 use Rattle.vk_device.specs.declared.logged.Logged.{Logged}
 use Rattle.vk_device.specs.declared.logged.Logged.TheVariants.{Created, Wrote, Fetched, Destroyed}
 use Rattle.vk_device.specs.Journal.{objects_after, kind_of, creates_of, ReachesTo, IsClean}
 use Rattle.vk_device.proofs.Laws.{kind_of-push, IsClean-push, unused, kind_of-nil}
-use Rattle.trace_run.specs.Group.{entry, with_entry}
+use Rattle.trace_run.specs.Group.{entry}
 use Rattle.trace_run.specs.Model.{Contents}
 use Rattle.trace_run.specs.Stands.{Holds, Stands, IsStored, KeepsStore, StoreTable, live_count, one, held_in}
-use Rattle.trace_run.proofs.Tables.{entry_at, yes, no}
+use Rattle.trace_run.proofs.Tables.{yes, no}
 
 at_entry : (journal : List Logged) (logged : Logged) (i : ℕ) → kind_of (journal ++ logged ∷ []) i ≡ objects_after (kind_of journal) logged i
 at_entry journal logged i = ap (λ (o : ℕ → Option Kind). o i) (kind_of-push journal logged)

@@ -1,14 +1,12 @@
 -- The whole state of a share group, the effect of a call on it, and legal histories.
-use Rattle.std.specs.Prelude.{◌≡◌, ℕ, ◌+◌, ◌==◌, Bool, true, List, [], ◌∷◌, length, ◌≤◌, ◌<◌, ◌^◌, Option, Some, None, IfSome, if◌then◌else◌}
+use Rattle.std.specs.Prelude.{◌≡◌, ℕ, ◌+◌, ◌==◌, true, List, [], ◌∷◌, length, ◌≤◌, ◌<◌, ◌^◌, Some, IfSome, if◌then◌else◌}
 use Rattle.cells.specs.Contents.{Agrees, part}
 use Rattle.std.specs.Option.{option_map_or}
-use Rattle.trace_run.specs.declared.calls.Target.{Target}
 use Rattle.trace_run.specs.declared.calls.Call.{Call}
 use Rattle.trace_run.specs.declared.calls.Call.TheVariants.{CreateContext, MakeCurrent, Bind, Data, Map, Read, Unmap}
 use Rattle.trace_run.specs.declared.calls.Reply.{Reply}
 use Rattle.trace_run.specs.declared.calls.Reply.TheVariants.{Done, Fetched, True}
 use Rattle.trace_run.specs.declared.calls.Entry.{Entry}
-use Rattle.trace_run.specs.declared.group.Mapped.{Mapped}
 use Rattle.trace_run.specs.declared.group.Buffer.{Buffer}
 use Rattle.trace_run.specs.Words.{IsCall}
 use Rattle.trace_run.specs.Group.{Group, opening, bound, entry, map_start, is_allowed, group_after}

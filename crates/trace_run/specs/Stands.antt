@@ -1,5 +1,5 @@
 -- What a device and the stores of buffers have to do with the state that the caller sees.
-use Rattle.std.specs.Prelude.{◌≡◌, ℕ, ◌+◌, ◌==◌, length, List, [], ◌∷◌, ◌++◌, fold, if◌then◌else◌, Option, Some, None}
+use Rattle.std.specs.Prelude.{◌≡◌, ℕ, ◌+◌, ◌==◌, length, List, [], ◌∷◌, fold, if◌then◌else◌, Option, Some, None}
 use Rattle.std.specs.List.{sum_by}
 use Rattle.std.specs.Map.{values_of}
 use Rattle.cells.specs.Contents.{Agrees}

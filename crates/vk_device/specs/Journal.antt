@@ -1,6 +1,5 @@
 -- The journal of a device, and what is known of its objects and batches from it.
 use Rattle.std.specs.Prelude.{◌≡◌, ℕ, ◌+◌, ◌<◌, ◌≤◌, ◌==◌, List, [], ◌∷◌, ◌++◌, length, fold, slice_get, All, if◌then◌else◌, Option, Some, None, IsSome, option_and_then}
-use Rattle.vk_types.specs.declared.handles.HandleId.{HandleId}
 use Rattle.vk_types.specs.declared.handles.Kind.{Kind}
 use Rattle.vk_types.specs.declared.handles.Kind.TheVariants.{Buffer, Image}
 use Rattle.vk_types.specs.declared.ops.Node.{Node}

@@ -1,5 +1,5 @@
 -- A count beside another that stays.
-use Rattle.std.proofs.Common.{◌≡◌, ℕ, ◌+◌, ◌-◌, ◌^◌, ◌≤◌, min, Err, arith}
+use Rattle.std.proofs.Common.{◌≡◌, ℕ, ◌+◌, ◌≤◌, Err, arith}
 use Rattle.faults.specs.Faults.{Rose}
 use Rattle.vk_types.specs.declared.stops.Stop.TheVariants.{Lost}
 use Rattle.vk_device.specs.Faults.{HasCause}

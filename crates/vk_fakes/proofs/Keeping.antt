@@ -1,19 +1,18 @@
 -- The objects of a device in memory stay those of its journal.
-use Rattle.std.proofs.Common.{◌≡◌, ◌≢◌, ℕ, ◌+◌, ◌≤◌, ◌<◌, ◌==◌, Bool, true, false, cond, List, [], ◌∷◌, ◌++◌, length, Option, Some, None, option_map, is_some, IsSome, take, drop, refl, sym, ap, ◌∙◌, subst, arith, inl, inr, length-append, length-take, length-drop}
+use Rattle.std.proofs.Common.{◌≡◌, ◌≢◌, ℕ, ◌+◌, ◌≤◌, ◌==◌, Bool, true, false, cond, List, [], ◌∷◌, ◌++◌, length, Option, Some, None, option_map, is_some, IsSome, take, drop, refl, sym, ap, ◌∙◌, subst, arith, inl, inr, length-append, length-take, length-drop}
 use Rattle.std.specs.Ordering.{nat_cmp}
 use Rattle.std.specs.BTreeMap.{is_at}
 use Rattle.std.proofs.lemmas.Option.{none-some, same_Some}
 use Rattle.std.specs.Cmp.{unsigned_ties}
 use Rattle.std.proofs.Common.{eq-eqb}
 use Rattle.std.proofs.lemmas.Bool.{cases_eq, ne_eqb}
-use Rattle.std.proofs.lemmas.Bool.Decides.{nat_tests}
 use Rattle.vk_types.specs.declared.handles.HandleId.{HandleId}
 use Rattle.cells.specs.Contents.{overwritten}
 use Rattle.vk_types.specs.declared.handles.Kind.{Kind}
 use Rattle.vk_types.specs.declared.handles.Kind.TheVariants.{Buffer, Image}
 use Rattle.vk_device.specs.declared.logged.Logged.{Logged}
-use Rattle.vk_device.specs.declared.logged.Logged.TheVariants.{Created, Wrote, Fetched, Destroyed}
-use Rattle.vk_device.specs.Journal.{objects_after, kind_of, create_of, create_of_one, creates, creates_of, ReachesTo}
+use Rattle.vk_device.specs.declared.logged.Logged.TheVariants.{Created, Wrote, Destroyed}
+use Rattle.vk_device.specs.Journal.{objects_after, kind_of, create_of, create_of_one, ReachesTo}
 use Rattle.vk_device.proofs.Laws.{kind_of-push, creates-push, creates_of-push, kind_of-nil, creates-nil, creates_of-nil}
 use Rattle.vk_fakes.specs.declared.fake.Object.{Object}
 use Rattle.vk_fakes.specs.Fakes.{object, byte_count, Keeps}

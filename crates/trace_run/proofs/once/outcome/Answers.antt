@@ -1,11 +1,10 @@
-use Rattle.std.proofs.Common.{◌≡◌, ◌≤◌, ◌⊎◌, ℕ, ◌+◌, ◌<◌, List, ◌++◌, length, take, Option, refl, sym, ap, ◌∙◌, subst, arith, inl, length-append}
+use Rattle.std.proofs.Common.{◌≡◌, ◌≤◌, ℕ, List, ◌++◌, length, take, Option, refl, sym, ap, ◌∙◌, subst, arith, inl, length-append}
 use Rattle.std.specs.Io.KnownBytes.{Consumes, IsAtEnd}
 use Rattle.trace_run.specs.declared.calls.Call.{Call}
-use Rattle.trace_run.specs.declared.calls.Entry.{Entry}
 use Rattle.trace_run.specs.Trace.{IsFirstFault, IsTrace}
-use Rattle.trace_run.specs.Model.{IsLegal, opening_calls}
+use Rattle.trace_run.specs.Model.{opening_calls}
 use Rattle.trace_run.specs.Stands.{AreEntriesOf}
-use Rattle.trace_run.specs.Once.{IsRefusal, Ran}
+use Rattle.trace_run.specs.Once.{IsRefusal}
 use Rattle.trace_run.proofs.Form.{trace_few}
 use Rattle.trace_run.proofs.once.outcome.Goals as goal
 

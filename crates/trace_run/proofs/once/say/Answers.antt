@@ -1,4 +1,4 @@
-use Rattle.std.proofs.Common.{◌≡◌, List, ℕ, refl, sym, ap, ◌∙◌}
+use Rattle.std.proofs.Common.{refl, ap, ◌∙◌}
 use Rattle.trace_run.specs.Replies.{render}
 use Rattle.trace_run.proofs.Ends.{puts_said}
 use Rattle.trace_run.specs.declared.once.Said.TheVariants as said

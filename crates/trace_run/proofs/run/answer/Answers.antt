@@ -1,8 +1,6 @@
-use Rattle.std.proofs.Common.{◌≡◌, ℕ, ◌+◌, ◌≤◌, List, [], length, refl, sym, ap, ◌∙◌, subst, arith, true, cond, ◌==◌}
-use Rattle.trace_run.specs.declared.calls.Call.{Call}
-use Rattle.trace_run.specs.Group.{Group, bound, map_start, is_allowed}
-use Rattle.trace_run.specs.Model.{State, Contents}
-use Rattle.trace_run.specs.Stands.{Stands, StoreTable, held_in, state_of}
+use Rattle.std.proofs.Common.{◌≡◌, ℕ, List, ap, ◌∙◌, subst, arith, cond, ◌==◌}
+use Rattle.trace_run.specs.Group.{Group, bound, map_start}
+use Rattle.trace_run.specs.Stands.{Stands, held_in, state_of}
 use Rattle.trace_run.proofs.StoreLaws.{stands_data}
 use Rattle.trace_run.proofs.Sound.{read_inside}
 use Rattle.trace_run.proofs.run.answer.Goals as goal

@@ -1,4 +1,4 @@
-use Rattle.std.proofs.Common.{◌≡◌, ◌≤◌, ◌+◌, ℕ, List, [], ◌∷◌, ◌++◌, refl, sym, ap, ◌∙◌, subst, arith}
+use Rattle.std.proofs.Common.{◌≡◌, ◌+◌, List, [], ◌++◌, refl, sym, ap, ◌∙◌, subst, arith}
 use Rattle.trace_run.specs.declared.calls.Entry.{Entry}
 use Rattle.trace_run.specs.Group.{Group, group_after}
 use Rattle.trace_run.specs.Model.{State, Contents, IsSound, IsLegal, AreAllowedFrom, Answers, contents_after, opening_calls, opening_history, ready}

@@ -1,4 +1,4 @@
-use Rattle.std.proofs.Common.{◌≡◌, ◌≤◌, ◌++◌, drop, take, length}
+use Rattle.std.proofs.Common.{◌≡◌, ◌≤◌, ◌++◌, drop, take}
 use Rattle.trace_run.specs.Model.{IsSound, IsLegal, AreAllowedFrom, opening_calls}
 use Rattle.trace_run.specs.Stands.{Stands, AreEntriesOf, state_of}
 use Rattle.trace_run.proofs.run.answer_all.Given as goal

@@ -1,5 +1,4 @@
-use Rattle.std.proofs.Common.{◌≡◌, ℕ, ◌+◌, ◌≤◌, List, length, refl, sym, ap, ◌∙◌, subst, arith, Option}
-use Rattle.vk_types.specs.declared.handles.Kind.{Kind}
+use Rattle.std.proofs.Common.{◌≡◌, ℕ, ◌+◌, length, sym, subst, arith}
 use Rattle.vk_device.specs.Journal.{kind_of, ReachesTo}
 use Rattle.vk_device.proofs.Laws.{IsClean-push}
 use Rattle.trace_run.proofs.StoreLaws.{fetched_kind, same_bytes, holds_fetched}

@@ -1,9 +1,6 @@
-use Rattle.std.proofs.Common.{◌≡◌, ◌≢◌, ℕ, ◌+◌, List, [], ◌∷◌, ◌++◌, length, Option, Some, None, refl, sym, ap, ◌∙◌, subst, arith}
+use Rattle.std.proofs.Common.{ap, ◌∙◌}
 use Rattle.vk_types.specs.declared.handles.HandleId.{HandleId}
-use Rattle.vk_types.specs.declared.handles.Kind.{Kind}
-use Rattle.vk_types.specs.declared.handles.Kind.TheVariants.{Buffer}
-use Rattle.vk_device.specs.Journal.{kind_of, IsClean, ReachesTo}
-use Rattle.trace_run.proofs.StoreLaws.{inside_new, made_holds, made_kind, made_clean, made_apart, made_others, created_clean, write_all_of, reaches}
+use Rattle.trace_run.proofs.StoreLaws.{inside_new, made_holds, made_kind, made_clean, made_apart, made_others, created_clean}
 use Rattle.trace_run.proofs.stores.make_store.Goals as goal
 
 pub write_host-requires-clause-inside : goal.write_host-requires-clause-inside

@@ -1,11 +1,11 @@
-use Rattle.std.proofs.Common.{◌≡◌, ◌≢◌, ◌<◌, ◌+◌, ℕ, List, [], ◌∷◌, length, refl, sym, ap, ◌∙◌, subst, arith}
+use Rattle.std.proofs.Common.{◌≡◌, ◌≢◌, ◌<◌, ◌+◌, ℕ, List, sym, ap, ◌∙◌, subst, arith}
 use Rattle.std.proofs.lemmas.List.{nil_from_length}
 use Rattle.std.proofs.lemmas.Bool.{eqb-true, eqb-false}
 use Rattle.trace_run.specs.declared.text.Next.TheVariants.{Other}
 use Rattle.trace_run.specs.declared.calls.Call.{Call}
 use Rattle.trace_run.specs.Group.{Group, group_after}
 use Rattle.trace_run.specs.Model.{groups_after, ready}
-use Rattle.trace_run.specs.Words.{Line, words_of, lines_of}
+use Rattle.trace_run.specs.Words.{words_of, lines_of}
 use Rattle.trace_run.specs.Trace.{IsFirstFault, IsNext}
 use Rattle.trace_run.proofs.Form.{Reading, fault_is, groups_after-push}
 use Rattle.trace_run.proofs.Advance.{on, whole_text, fault_after, fault_here, fault_early, read_more, opened_reading}

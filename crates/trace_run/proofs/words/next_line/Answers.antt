@@ -1,5 +1,4 @@
-use Rattle.std.proofs.Common.{◌≡◌, ◌==◌, ℕ, List, [], ◌∷◌, ◌<◌, length, refl, sym, ap, ◌∙◌, arith, map}
-use Rattle.std.proofs.lemmas.List.Splits.{slice_split_first, slice_split_none}
+use Rattle.std.proofs.Common.{sym}
 use Rattle.trace_run.proofs.Splits.{line_at, line_last}
 use Rattle.trace_run.proofs.words.next_line.Goals as goal
 

@@ -1,4 +1,4 @@
-use Rattle.std.proofs.Common.{◌≡◌, ℕ, ◌+◌, ◌-◌, ◌<◌, ◌≤◌, List, [], ◌++◌, length, take, drop, min, refl, sym, ap, ◌∙◌, arith, length-append}
+use Rattle.std.proofs.Common.{◌≡◌, ℕ, ◌+◌, ◌-◌, ◌≤◌, List, ◌++◌, length, take, drop, sym, ap, ◌∙◌, arith}
 use Rattle.std.proofs.lemmas.List.{take-append-drop, take-append-le, take_all, take_rest, drop-drop, drop_all, length-take, length-drop}
 use Rattle.trace_io.proofs.memory.MemorySourceSource.read.Goals as goal
 
@@ -14,8 +14,7 @@ returns-clause-bytes c =
     let bytes = c.self.inside.bytes.items in
     let at = c.self.inside.at in
     let rest : take (length c.deref-2.result.now - at) (drop at c.deref-2.result.now) ≡ drop at bytes = take_rest c.deref-2.result.now at ∙ ap (drop at) c.deref-2.ensures.value in
-    let few : c.min-count.result ≤ length (drop at bytes) = omega (arith, c.min-count.ensures, ap length rest) in
-    (
+    let few : c.min-count.result ≤ length (drop at bytes) = omega (arith, c.min-count.ensures, ap length rest) in (
       ap (λ s. s.left) (sym c.self.view_is) ∙ parts at c.min-count.result bytes c.copy_from_slice.new.self c.args.out.now (c.copy_from_slice.ensures.after ∙ ap (take c.min-count.result) rest) few,
       λ none some. drop_all (at + c.min-count.result) bytes (omega (arith, c.min-count.ensures, ap length rest, length-drop at bytes, c.requires)),
     )

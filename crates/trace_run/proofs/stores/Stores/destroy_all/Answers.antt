@@ -1,5 +1,5 @@
-use Rattle.std.proofs.Common.{◌≡◌, ◌+◌, ℕ, sym, arith}
-use Rattle.trace_run.specs.Stands.{Holds, held_in, one}
+use Rattle.std.proofs.Common.{sym, arith}
+use Rattle.trace_run.specs.Stands.{held_in}
 use Rattle.trace_run.proofs.StoreLaws.{holds_same, holds_destroyed, last_is_live, popped}
 use Rattle.trace_run.proofs.stores.Stores.destroy_all.Goals as goal
 

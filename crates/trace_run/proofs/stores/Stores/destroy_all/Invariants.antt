@@ -1,4 +1,4 @@
-use Rattle.std.proofs.Common.{◌≡◌, ◌≤◌, btree_map_len}
+use Rattle.std.proofs.Common.{◌≤◌, btree_map_len}
 use Rattle.trace_run.specs.Stands.{Holds, held_in}
 use Rattle.trace_run.proofs.stores.Stores.destroy_all.Given as goal
 

@@ -1,7 +1,5 @@
-use Rattle.std.proofs.Common.{◌≡◌, ◌≢◌, ℕ, ◌+◌, ◌==◌, List, refl, sym, ap, ◌∙◌, subst, arith}
 use Rattle.std.proofs.lemmas.Result.{on_ok_weaker}
-use Rattle.vk_device.specs.Journal.{IsClean}
-use Rattle.trace_run.specs.Stands.{Holds, held_in, one}
+use Rattle.trace_run.specs.Stands.{held_in}
 use Rattle.trace_run.proofs.StoreLaws.{holds_swapped, holds_added, holds_destroyed, last_is_live, kept_destroyed, either_way}
 use Rattle.trace_run.proofs.stores.Stores.put.Goals as goal
 

@@ -1,9 +1,8 @@
-use Rattle.std.proofs.Common.{◌≡◌, ℕ, ◌+◌, sym, ap, ◌∙◌, option_map, unwrap_or}
-use Rattle.std.specs.Ordering.{nat_cmp}
+use Rattle.std.proofs.Common.{ℕ}
 use Rattle.std.specs.Cmp.{nat_cmp_total}
 use Rattle.std.proofs.lemmas.Map.Entries.{sum_by-insert_entry}
 use Rattle.vk_types.specs.declared.handles.HandleId.{HandleId}
-use Rattle.trace_run.specs.Stands.{StoreTable, held_in, one}
+use Rattle.trace_run.specs.Stands.{one}
 use Rattle.trace_run.proofs.stores.Stores.replace.Goals as goal
 use Rattle.trace_run.proofs.stores.Stores.replace.Goals.{in-Ok, in-Err}
 

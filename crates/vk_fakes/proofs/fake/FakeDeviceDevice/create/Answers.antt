@@ -1,4 +1,4 @@
-use Rattle.std.proofs.Common.{◌≡◌, ℕ, ◌∙◌, refl, arith, ap, length, is_some}
+use Rattle.std.proofs.Common.{◌∙◌, refl, arith, ap, length, is_some}
 use Rattle.std.proofs.lemmas.List.{length-replicate}
 use Rattle.vk_fakes.specs.declared.fake.Object.{Object}
 use Rattle.vk_fakes.proofs.Keeping.{created, at_most_one}

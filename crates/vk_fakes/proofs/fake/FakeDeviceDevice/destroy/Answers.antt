@@ -1,6 +1,5 @@
-use Rattle.std.proofs.Common.{◌≡◌, ℕ, ◌+◌, ◌∙◌, refl, arith, sym, ap, is_some, IsSome, subst, Option, Bool, true, cond}
+use Rattle.std.proofs.Common.{◌≡◌, ℕ, ◌+◌, ◌∙◌, refl, arith, sym, ap, is_some, IsSome, subst, Bool, true, cond}
 use Rattle.vk_device.specs.Journal.{kind_of}
-use Rattle.vk_fakes.specs.declared.fake.Object.{Object}
 use Rattle.vk_fakes.specs.Fakes.{FakeModel}
 use Rattle.vk_fakes.proofs.Keeping.{destroyed, is_there}
 use Rattle.vk_fakes.proofs.fake.FakeDeviceDevice.destroy.Goals as goal

@@ -1,4 +1,4 @@
-use Rattle.std.proofs.Common.{◌≡◌, ℕ, ◌∙◌, refl, arith, []}
+use Rattle.std.proofs.Common.{refl, arith, []}
 use Rattle.vk_fakes.proofs.Keeping.{unchanged}
 use Rattle.vk_fakes.proofs.fake.FakeDeviceDevice.read_host.Goals as goal
 

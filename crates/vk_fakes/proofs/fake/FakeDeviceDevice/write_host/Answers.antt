@@ -1,4 +1,4 @@
-use Rattle.std.proofs.Common.{◌≡◌, ℕ, ◌+◌, ◌∙◌, refl, arith, sym, ap, subst, length, IsSome, Some, is_some, []}
+use Rattle.std.proofs.Common.{◌≡◌, ◌+◌, ◌∙◌, refl, arith, sym, ap, subst, length, Some, is_some, []}
 use Rattle.vk_device.specs.Journal.{ReachesTo, kind_of}
 use Rattle.vk_fakes.specs.declared.fake.Object.{Object}
 use Rattle.vk_fakes.specs.Fakes.{FakeModel, object}
