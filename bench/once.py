@@ -1,0 +1,58 @@
+#!/usr/bin/env python3
+"""Times runs of traces of growing length, and of texts of the greatest length. Run it after `rt run` in crates/angle_run.
+
+The gate does not run it."""
+import os
+import subprocess
+import tempfile
+import time
+
+PROGRAM = os.path.join(os.path.dirname(__file__), "..", "crates", "angle_run", "out", "angle_run")
+OPENING = b"angle-trace 1\nthread 0 group 0\nbegin\n0 ecreate 1\n0 ecurrent 1\n"
+
+
+def calls(count):
+    """Calls on buffers of 8 bytes, with 100,000 names."""
+    yield OPENING
+    for i in range(count // 5):
+        name = 1 + (i * 7919) % 100000
+        yield (
+            b"0 bind copy_read %d\n0 bdata copy_read 8 static_draw 0102030405060708\n"
+            b"0 bmap copy_read 0 8 r\n0 mread copy_read 2 4\n0 bunmap copy_read\n" % name
+        )
+    yield b"end\n"
+
+
+def one_store(size):
+    """One buffer, filled and read whole."""
+    yield OPENING
+    yield b"0 bind copy_read 1\n0 bdata copy_read %d static_draw " % size
+    yield from (b"ab" * 1000 for _ in range(size // 1000))
+    yield b"\n0 bmap copy_read 0 %d r\n0 mread copy_read 0 %d\n0 bunmap copy_read\nend\n" % (size, size)
+
+
+def repeated(first, byte, count):
+    yield first
+    yield from (byte * 1000 for _ in range(count // 1000))
+
+
+TEXTS = [
+    ("10,000 calls", calls(10_000)),
+    ("100,000 calls", calls(100_000)),
+    ("1,000,000 calls", calls(1_000_000)),
+    ("a store of 16,000,000 bytes", one_store(16_000_000)),
+    ("67 MB of line feeds", repeated(b"", b"\n", 67_000_000)),
+    ("67 MB, one line of spaces", repeated(OPENING, b" ", 67_000_000)),
+]
+
+for name, chunks in TEXTS:
+    with tempfile.TemporaryFile() as source:
+        for chunk in chunks:
+            source.write(chunk)
+        size = source.tell()
+        source.seek(0)
+        start = time.monotonic()
+        process = subprocess.Popen([PROGRAM, "once", "--seed", "0"], stdin=source, stdout=subprocess.DEVNULL)
+        _, status, usage = os.wait4(process.pid, 0)
+        seconds = time.monotonic() - start
+    print(f"{name}: {size / 1e6:.1f} MB of text, {seconds:.2f} s, {usage.ru_maxrss / 1e3:.0f} MB, status {os.waitstatus_to_exitcode(status)}")
