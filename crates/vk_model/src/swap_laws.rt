@@ -1,0 +1,43 @@
+// Nodes without a conflict change places.
+ghost use Rattle.std.specs.Prelude.{◌≡◌, ℕ, ℤ, ◌<◌, ◌≤◌, ◌+◌, ◌*◌, min, ◌⊎◌, true, List, [], ◌∷◌, ◌++◌, length, take, slice_get, slice_index, ◌↔◌, Option, Some, None, IfSome, Contains, false, ◌||◌, is_some};
+ghost use Rattle.std.specs.List.{AllByRecursion};
+ghost use Rattle.vk_types.specs.declared.handles.Kind.{Kind};
+ghost use Rattle.vk_types.specs.declared.regions.Barrier.{Barrier};
+ghost use Rattle.vk_types.specs.declared.regions.Rect.{Rect};
+ghost use Rattle.vk_types.specs.declared.handles.HandleId.{HandleId};
+ghost use Rattle.vk_types.specs.declared.ops.Op.TheVariants.{CopyBuffer, ClearImage, CopyImage, BufferToImage};
+ghost use Rattle.vk_types.specs.declared.ops.Node.{Node};
+ghost use Rattle.vk_types.specs.Accesses.{in_common};
+ghost use Rattle.vk_types.specs.Touches.{barrier_of, the_end, rows_size};
+ghost use Rattle.vk_model.specs.Cells.{Contents, place, ahead};
+ghost use Rattle.vk_model.specs.Log.{Item, Command, HostWrite, node_range, clash, touches_object, touches_with, conflict as conflicts, Conflicts, items_clash, HasEdge, IsReady, IsPermitted, NoneEmpty, FindsLayouts, IsSound, commands, NoConflict, ReachesNext, IsOneQueue, is_guarded, NamesAll, IsFenced};
+ghost use Rattle.vk_model.specs.Queues.{IsHandedOver, group_list, HasGroups};
+ghost use Rattle.vk_model.specs.Batches.{Accepted, device_log, BatchesHandOver};
+ghost use Rattle.vk_model.specs.Tracking.{IsLastBarrier, IsTracked, IsSince, TouchesSince};
+ghost use Rattle.vk_model.specs.Meaning.{nothing, found, apply, eval, executed, touches_id, IsSettled, ContentsAgree, LiesIn};
+
+/// Neighbours without a conflict may change places.
+pub fn neighbours_commute()
+    ensures { (kinds : ℕ → Kind) (front back : List Item) (x y : Item) → items_clash x y ≡ false →
+        eval kinds (front ++ x ∷ y ∷ back) ≡ eval kinds (front ++ y ∷ x ∷ back) }
+{}
+
+/// Soundness is kept where neighbouring nodes without a conflict change places.
+pub fn neighbours_stay_sound()
+    ensures { (front back : List Item) (p q : ℕ) (a b : Node) →
+        NoneEmpty a → NoneEmpty b → conflicts a b ≡ false →
+        IsSound (front ++ Command p a ∷ Command q b ∷ back) →
+        IsSound (front ++ Command q b ∷ Command p a ∷ back) }
+{}
+
+/// So do whole lists of nodes, of which none of the one conflicts with one of the other.
+pub fn lists_change_places()
+    ensures sound { (q : ℕ) (front back : List Item) (xs ys : List Node) →
+        AllByRecursion NoneEmpty xs → AllByRecursion NoneEmpty ys → NoConflict xs ys →
+        IsSound (front ++ (commands q xs ++ (commands q ys ++ back))) →
+        IsSound (front ++ (commands q ys ++ (commands q xs ++ back))) }
+    ensures contents { (q : ℕ) (kinds : ℕ → Kind) (front back : List Item) (xs ys : List Node) →
+        AllByRecursion NoneEmpty xs → AllByRecursion NoneEmpty ys → NoConflict xs ys →
+        eval kinds (front ++ (commands q xs ++ (commands q ys ++ back)))
+        ≡ eval kinds (front ++ (commands q ys ++ (commands q xs ++ back))) }
+{}
