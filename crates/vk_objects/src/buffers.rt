@@ -1,0 +1,46 @@
+// Nodes on buffers.
+ghost use Rattle.std.specs.Prelude.{◌≡◌, ◌≢◌, ◌+◌, ◌≤◌, ◌⊎◌, length, replicate, IsSome};
+ghost use Rattle.cells.specs.Contents.{part, overwritten};
+ghost use Rattle.vk_objects.specs.Objects.{kind_of, bytes_of, SetsBytes};
+
+use crate::Objects;
+use vk_types::HandleId;
+
+/// Copies bytes between two buffers, or inside one to a place that does not overlap theirs.
+pub(crate) fn copy(
+    objects: &mut Objects,
+    src: HandleId,
+    src_at: usize,
+    dst: HandleId,
+    dst_at: usize,
+    size: usize,
+)
+    requires src { src_at + size ≤ length (bytes_of objects.old src.0) }
+    requires dst { dst_at + size ≤ length (bytes_of objects.old dst.0) }
+    requires live { IsSome (kind_of objects.old src.0) }
+    requires also_live { IsSome (kind_of objects.old dst.0) }
+    requires apart { src.0 ≡ dst.0 → (src_at + size ≤ dst_at) ⊎ (dst_at + size ≤ src_at) }
+    ensures { SetsBytes objects.old objects.new dst.0 (overwritten (bytes_of objects.old dst.0) dst_at (part (bytes_of objects.old src.0) src_at size)) }
+{
+    let mut bytes = objects.take(dst);
+    if src == dst {
+        bytes.move_within(src_at, dst_at, size);
+    } else {
+        match objects.bytes(src) {
+            Some(from) => bytes.overwrite(dst_at, &from[src_at..src_at + size]),
+            None => unreachable!(),
+        }
+    }
+    objects.put_back(dst, bytes);
+}
+
+/// Writes one byte to a range of a buffer.
+pub(crate) fn fill(objects: &mut Objects, dst: HandleId, dst_at: usize, size: usize, byte: u8)
+    requires dst { dst_at + size ≤ length (bytes_of objects.old dst.0) }
+    requires live { IsSome (kind_of objects.old dst.0) }
+    ensures { SetsBytes objects.old objects.new dst.0 (overwritten (bytes_of objects.old dst.0) dst_at (replicate size byte)) }
+{
+    let mut bytes = objects.take(dst);
+    bytes.as_mut_slice()[dst_at..dst_at + size].fill(byte);
+    objects.put_back(dst, bytes);
+}
