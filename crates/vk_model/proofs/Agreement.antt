@@ -1,5 +1,5 @@
 -- Contents that agree before an item agree after it.
-use Rattle.std.proofs.Common.{◌≡◌, ℕ, zero, suc, ◌+◌, ◌-◌, ◌*◌, ◌^◌, ◌/◌, ◌%◌, ◌<◌, List, [], ◌∷◌, Bool, true, false, cond, refl, sym, ◌∙◌, ap, subst, arith, inl, inr}
+use Rattle.std.proofs.Common.{◌≡◌, ℕ, zero, suc, ◌+◌, ◌-◌, ◌*◌, ◌^◌, ◌/◌, ◌%◌, ◌<◌, List, [], ◌∷◌, map, Bool, true, false, cond, refl, sym, ◌∙◌, ap, subst, arith, inl, inr}
 use Rattle.std.specs.Prelude.{◌&&◌, ◌⊎◌, nat_lt, nat_le, length, Option, Some, None, slice_index}
 use Rattle.std.proofs.lemmas.Bool.{cases_Bool, and_parts, ltb-true, cond-true, cond-false, and_from}
 use Rattle.vk_types.specs.declared.handles.Kind.{Kind}
@@ -8,9 +8,10 @@ use Rattle.vk_types.specs.declared.ops.Load.{Load}
 use Rattle.vk_types.specs.declared.ops.Load.TheVariants.{DontCare}
 use Rattle.vk_types.specs.declared.ops.Op.{Op}
 use Rattle.vk_types.specs.declared.ops.Op.TheVariants.{CopyBuffer, BufferToImage, ImageToBuffer, CopyImage, BlitImage, ClearImage, FillBuffer, PassPart}
-use Rattle.cells.specs.Contents.{UNDEFINED}
-use Rattle.vk_model.specs.Cells.{Contents, at_both, behind, column_at, row_at, byte_at, place, all_defined, number_of, converted, texel_to_buffer, clear_image, loaded, cleared, discards, op_cell, format_of, width_of, height_of, texel_size, source_of, nearest_texel}
-use Rattle.vk_model.specs.Formats.{widths, converted_to}
+use Rattle.cells.specs.Contents.{UNDEFINED, cells}
+use Rattle.std.specs.List.{range_with_len}
+use Rattle.vk_model.specs.Cells.{Contents, at_both, behind, column_at, row_at, byte_at, place, all_defined, converted, texel_to_buffer, clear_image, loaded, cleared, discards, op_cell, format_of, width_of, height_of, texel_size, source_of, nearest_texel}
+use Rattle.vk_model.specs.Texels.{expanded_texel, converted_texel}
 use Rattle.vk_types.specs.declared.regions.Coords.{Coords}
 use Rattle.vk_model.specs.Log.{Item, Command, HostWrite, Wait, Signal}
 use Rattle.vk_model.specs.Meaning.{is_touched, is_written, found, item_cell, apply, ContentsAgree}
@@ -28,26 +29,23 @@ same_at_both None y f g a b one other = other
 same_at_both (Some x) None f g a b one other = other
 same_at_both (Some x) (Some y) f g a b one other = one x y
 
-same_all_defined : (c d : ℕ → ℕ) (n : ℕ) → ((b : ℕ) → Same (c b) (d b)) → all_defined d n ≡ true → (all_defined c n ≡ true) × (number_of c n ≡ number_of d n)
-same_all_defined c d zero same e = (refl, refl)
-same_all_defined c d (suc n) same e =
-    let parts = and_parts (all_defined d n) (nat_lt (d n) 256) e in
-    let rest = same_all_defined c d n same parts.0 in
-    let here : c n ≡ d n = same n (ltb-true (d n) 256 parts.1) in (
-      and_from (all_defined c n) (nat_lt (c n) 256) rest.0 (ap (λ x. nat_lt x 256) here ∙ parts.1),
-      ap (λ x. x + c n * 256 ^ n) rest.1 ∙ ap (λ x. number_of d n + x * 256 ^ n) here,
-    )
+-- where all cells of the one texel are defined the other is the same
+same_texel : (c d : ℕ → ℕ) (a n : ℕ) → ((b : ℕ) → Same (c b) (d b)) → all_defined (map d (range_with_len a n)) ≡ true → map c (range_with_len a n) ≡ map d (range_with_len a n)
+same_texel c d a zero same e = refl
+same_texel c d a (suc n) same e =
+    let parts = and_parts (nat_lt (d a) UNDEFINED) (all_defined (map d (range_with_len (a + 1) n))) e in
+    let here : c a ≡ d a = same a (ltb-true (d a) 256 parts.0) in
+    let rest : map c (range_with_len (a + 1) n) ≡ map d (range_with_len (a + 1) n) = same_texel c d (a + 1) n same parts.1 in
+    ap (λ x. x ∷ map c (range_with_len (a + 1) n)) here ∙ ap (λ xs. d a ∷ xs) rest
 
-same_converted : (f c d : ℕ → ℕ) (size byte : ℕ) → ((b : ℕ) → Same (c b) (d b)) → Same (converted f c size byte) (converted f d size byte)
-same_converted f c d size byte same = go (cases_Bool (all_defined d size))
+same_converted : (f : List ℕ → List ℕ) (c d : ℕ → ℕ) (size byte : ℕ) → ((b : ℕ) → Same (c b) (d b)) → Same (converted f c size byte) (converted f d size byte)
+same_converted f c d size byte same = go (cases_Bool (all_defined (cells size d)))
   where
-    go : (all_defined d size ≡ true) ⊎ (all_defined d size ≡ false) → Same (converted f c size byte) (converted f d size byte)
+    go : (all_defined (cells size d) ≡ true) ⊎ (all_defined (cells size d) ≡ false) → Same (converted f c size byte) (converted f d size byte)
     go (inl e) below =
-        let both = same_all_defined c d size same e in
-        cond-true (all_defined c size) ((f (number_of c size) / 256 ^ byte) % 256) UNDEFINED both.0
-        ∙ ap (λ n. (f n / 256 ^ byte) % 256) both.1
-        ∙ sym (cond-true (all_defined d size) ((f (number_of d size) / 256 ^ byte) % 256) UNDEFINED e)
-    go (inr e) below = absurd (omega (arith, subst (λ x. x < 256) (cond-false (all_defined d size) ((f (number_of d size) / 256 ^ byte) % 256) UNDEFINED e) below))
+        let texels : cells size c ≡ cells size d = same_texel c d 0 size same e in
+        ap (λ t. cond (all_defined t) (slice_index (f t) byte) UNDEFINED) texels
+    go (inr e) below = absurd (omega (arith, subst (λ x. x < 256) (cond-false (all_defined (cells size d)) (slice_index (f (cells size d)) byte) UNDEFINED e) below))
 
 same_cleared : (kind : Kind) (clears : List Clear) (i a b : ℕ) → Same a b → Same (cleared kind clears i a) (cleared kind clears i b)
 same_cleared kind [] i a b same = same
@@ -61,7 +59,7 @@ same_loaded (Load.Clear texel) byte a b same = λ below. refl
 same_loaded DontCare byte a b same = λ below. refl
 
 same_texel_to_buffer : (kind : Kind) (src src' : ℕ → ℕ) (expand : Bool) (x y byte : ℕ) → ((p : ℕ) → Same (src p) (src' p)) → Same (texel_to_buffer kind src expand x y byte) (texel_to_buffer kind src' expand x y byte)
-same_texel_to_buffer kind src src' true x y byte same = same_converted (converted_to (32 ∷ 32 ∷ 32 ∷ 32 ∷ []) (format_of kind)) (λ b. src (place kind x y b)) (λ b. src' (place kind x y b)) (texel_size kind) byte (λ b. same (place kind x y b))
+same_texel_to_buffer kind src src' true x y byte same = same_converted (expanded_texel (format_of kind)) (λ b. src (place kind x y b)) (λ b. src' (place kind x y b)) (texel_size kind) byte (λ b. same (place kind x y b))
 same_texel_to_buffer kind src src' false x y byte same = same (place kind x y byte)
 
 same_nearest_texel : (from to : Kind) (src src' : ℕ → ℕ) (coords : Coords) (i a b : ℕ) → ((p : ℕ) → Same (src p) (src' p)) → Same a b → Same (nearest_texel from to src coords i a) (nearest_texel from to src' coords i b)
@@ -69,10 +67,10 @@ same_nearest_texel from to src src' coords i a b same old =
     same_at_both
     (source_of (width_of from) coords.sx0 coords.sx1 coords.dx0 coords.dx1 (column_at to i))
     (source_of (height_of from) coords.sy0 coords.sy1 coords.dy0 coords.dy1 (row_at to i))
-    (λ x y. converted (converted_to (widths (format_of to)) (format_of from)) (λ b. src (place from x y b)) (texel_size from) (byte_at to i))
-    (λ x y. converted (converted_to (widths (format_of to)) (format_of from)) (λ b. src' (place from x y b)) (texel_size from) (byte_at to i))
+    (λ x y. converted (converted_texel (format_of from) (format_of to)) (λ b. src (place from x y b)) (texel_size from) (byte_at to i))
+    (λ x y. converted (converted_texel (format_of from) (format_of to)) (λ b. src' (place from x y b)) (texel_size from) (byte_at to i))
     a b
-    (λ x y. same_converted (converted_to (widths (format_of to)) (format_of from)) (λ b. src (place from x y b)) (λ b. src' (place from x y b)) (texel_size from) (byte_at to i) (λ b. same (place from x y b)))
+    (λ x y. same_converted (converted_texel (format_of from) (format_of to)) (λ b. src (place from x y b)) (λ b. src' (place from x y b)) (texel_size from) (byte_at to i) (λ b. same (place from x y b)))
     old
 
 same_op_cell : (kinds : ℕ → Kind) (o : Op) (c d : Contents) → ContentsAgree c d → (id i : ℕ) → Same (op_cell kinds o c id i) (op_cell kinds o d id i)

@@ -4,7 +4,7 @@ use Rattle.std.specs.Prelude.{pos, negsuc, Some, None, map}
 use Rattle.vk_types.specs.declared.handles.Kind.{Kind}
 use Rattle.vk_types.specs.declared.handles.Kind.TheVariants.{Buffer, Image}
 use Rattle.vk_types.specs.declared.ops.Op.TheVariants.{CopyBuffer, ClearImage}
-use Rattle.vk_model.specs.Formats.{texel_bytes, expanded, packed, widths}
+use Rattle.vk_model.specs.Texels.{texel_bytes, expanded_texel, converted_texel}
 use Rattle.vk_model.specs.Cells.{place, column_at, row_at, byte_at, behind, source_of, last_row}
 use Rattle.vk_model.specs.Log.{Command, HostWrite}
 use Rattle.cells.specs.Contents.{cells}
@@ -14,14 +14,12 @@ sizes : map texel_bytes (0 ∷ 1 ∷ 2 ∷ 3 ∷ 4 ∷ 5 ∷ 6 ∷ 7 ∷ 8 ∷ 9
 sizes = refl
 
 -- a signed byte of -1, red alone
-minus_one : expanded 1 255 ≡ 4294967295 ∷ 0 ∷ 0 ∷ 1 ∷ []
+minus_one : expanded_texel 1 (255 ∷ []) ≡ 255 ∷ 255 ∷ 255 ∷ 255 ∷ 0 ∷ 0 ∷ 0 ∷ 0 ∷ 0 ∷ 0 ∷ 0 ∷ 0 ∷ 1 ∷ 0 ∷ 0 ∷ 0 ∷ []
 minus_one = refl
 
-ten_bits : packed (widths 9) (1 ∷ 1023 ∷ 1025 ∷ 7 ∷ []) ≡ 1 + 1023 * 2 ^ 10 + 1 * 2 ^ 20 + 3 * 2 ^ 30
-ten_bits = refl
-
-ten_bits_back : expanded 9 (1 + 1023 * 2 ^ 10 + 1 * 2 ^ 20 + 3 * 2 ^ 30) ≡ 1 ∷ 1023 ∷ 1 ∷ 3 ∷ []
-ten_bits_back = refl
+-- a blit keeps the low bits of each component
+low_bits : converted_texel 4 0 (7 ∷ 1 ∷ 0 ∷ 0 ∷ []) ≡ 7 ∷ []
+low_bits = refl
 
 at_place : place (Image 7 5 3) 3 2 1 ≡ 53
 at_place = refl

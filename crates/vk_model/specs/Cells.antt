@@ -1,5 +1,6 @@
 -- The cell that each operation leaves at a place. 256 stands for a cell that is not defined.
 use Rattle.std.specs.Prelude.{ℕ, zero, suc, ◌+◌, ◌-◌, ◌*◌, ◌/◌, ◌%◌, ◌^◌, ◌==◌, nat_lt, nat_le, min, max, ◌&&◌, Bool, true, false, ℤ, pos, negsuc, List, [], ◌∷◌, slice_index, Option, Some, None, if◌then◌else◌}
+use Rattle.std.specs.List.{list_all}
 use Rattle.vk_types.specs.declared.handles.Kind.{Kind}
 use Rattle.vk_types.specs.declared.handles.Kind.TheVariants.{Buffer, Image}
 use Rattle.vk_types.specs.declared.accesses.Layout.{Layout}
@@ -11,9 +12,9 @@ use Rattle.vk_types.specs.declared.regions.Clear.{Clear}
 use Rattle.vk_types.specs.declared.regions.Coords.{Coords}
 use Rattle.vk_types.specs.declared.ops.Op.{Op}
 use Rattle.vk_types.specs.declared.ops.Op.TheVariants.{CopyBuffer, BufferToImage, ImageToBuffer, CopyImage, BlitImage, ClearImage, FillBuffer, PassPart}
-use Rattle.cells.specs.Contents.{UNDEFINED}
+use Rattle.cells.specs.Contents.{UNDEFINED, cells}
 use Rattle.vk_types.specs.Touches.{buffer_texel}
-use Rattle.vk_model.specs.Formats.{widths, texel_bytes, converted_to}
+use Rattle.vk_model.specs.Texels.{texel_bytes, expanded_texel, converted_texel}
 
 -- the cell of each object at each place: a byte, or UNDEFINED
 abbrev pub Contents : Type 0
@@ -73,18 +74,13 @@ in_rect kind rect i f other = at_both (behind rect.x rect.w (column_at kind i)) 
 
 -- Texels
 
-abbrev pub all_defined : (ℕ → ℕ) → ℕ → Bool
-all_defined cells zero = true
-all_defined cells (suc n) = all_defined cells n && nat_lt (cells n) 256
+-- whether each cell of a texel is defined
+abbrev pub all_defined : List ℕ → Bool
+all_defined texel = list_all (λ cell. nat_lt cell UNDEFINED) texel
 
--- the first n cells as a number, the lowest first
-abbrev pub number_of : (ℕ → ℕ) → ℕ → ℕ
-number_of cells zero = 0
-number_of cells (suc n) = number_of cells n + cells n * 256 ^ n
-
--- A byte of what f makes of a texel. One cell that is not defined leaves none defined.
-abbrev pub converted : (ℕ → ℕ) → (ℕ → ℕ) → ℕ → ℕ → ℕ
-converted f cells size byte = if all_defined cells size then (f (number_of cells size) / 256 ^ byte) % 256 else UNDEFINED
+-- A byte of what f makes of a texel of so many bytes. One cell that is not defined leaves none defined.
+abbrev pub converted : (List ℕ → List ℕ) → (ℕ → ℕ) → ℕ → ℕ → ℕ
+converted f texel size byte = if all_defined (cells size texel) then slice_index (f (cells size texel)) byte else UNDEFINED
 
 -- Operations. In each, id and i are the place that is written, and c is what is found.
 
@@ -111,7 +107,7 @@ last_row rows stride at = if stride == 0 then rows - 1 else min (at / stride) (r
 abbrev pub texel_to_buffer : Kind → (ℕ → ℕ) → Bool → ℕ → ℕ → ℕ → ℕ
 texel_to_buffer kind src expand x y byte =
     if expand
-    then converted (converted_to (32 ∷ 32 ∷ 32 ∷ 32 ∷ []) (format_of kind)) (λ b. src (place kind x y b)) (texel_size kind) byte
+    then converted (expanded_texel (format_of kind)) (λ b. src (place kind x y b)) (texel_size kind) byte
     else src (place kind x y byte)
 
 -- the rows of a rectangle become rows of a buffer, a later row over an earlier one; at counts from the first row on
@@ -161,7 +157,7 @@ nearest_texel from to src coords i old =
     at_both
     (source_of (width_of from) coords.sx0 coords.sx1 coords.dx0 coords.dx1 (column_at to i))
     (source_of (height_of from) coords.sy0 coords.sy1 coords.dy0 coords.dy1 (row_at to i))
-    (λ x y. converted (converted_to (widths (format_of to)) (format_of from)) (λ b. src (place from x y b)) (texel_size from) (byte_at to i))
+    (λ x y. converted (converted_texel (format_of from) (format_of to)) (λ b. src (place from x y b)) (texel_size from) (byte_at to i))
     old
 
 -- so in a clip

@@ -1,7 +1,7 @@
 // Live objects by their numbers.
 ghost use Rattle.std.specs.Prelude.{◌≡◌, ℕ, [], None, Some, IsSome, OnOk, OnErr, option_map, replicate};
 ghost use Rattle.std.specs.Prelude.{◌<◌};
-ghost use Rattle.vk_model.specs.Formats.{texel_bytes};
+ghost use Rattle.vk_model.specs.Texels.{texel_bytes};
 ghost use Rattle.std.specs.Option.{option_copied};
 ghost use Rattle.vk_objects.specs.Objects.{object_at, kind_of, bytes_of, size_of, new_object, IsKind, IsUnchanged, SetsBytes, SetsObject};
 
