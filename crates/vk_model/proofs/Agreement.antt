@@ -1,7 +1,7 @@
 -- Contents that agree before an item agree after it.
-use Rattle.std.proofs.Common.{◌≡◌, ℕ, zero, suc, ◌+◌, ◌-◌, ◌*◌, ◌^◌, ◌/◌, ◌%◌, ◌<◌, List, [], ◌∷◌, map, Bool, true, false, cond, refl, sym, ◌∙◌, ap, subst, arith, inl, inr}
+use Rattle.std.proofs.Common.{◌≡◌, ℕ, zero, suc, ◌+◌, ◌-◌, ◌<◌, List, [], ◌∷◌, map, Bool, true, false, cond, refl, sym, ◌∙◌, ap, subst, arith, inl, inr}
 use Rattle.std.specs.Prelude.{◌&&◌, ◌⊎◌, nat_lt, nat_le, length, Option, Some, None, slice_index}
-use Rattle.std.proofs.lemmas.Bool.{cases_Bool, and_parts, ltb-true, cond-true, cond-false, and_from}
+use Rattle.std.proofs.lemmas.Bool.{cases_Bool, and_parts, ltb-true, cond-false}
 use Rattle.vk_types.specs.declared.handles.Kind.{Kind}
 use Rattle.vk_types.specs.declared.regions.Clear.{Clear}
 use Rattle.vk_types.specs.declared.ops.Load.{Load}
@@ -73,7 +73,7 @@ same_nearest_texel from to src src' coords i a b same old =
     (λ x y. same_converted (converted_texel (format_of from) (format_of to)) (λ b. src (place from x y b)) (λ b. src' (place from x y b)) (texel_size from) (byte_at to i) (λ b. same (place from x y b)))
     old
 
-same_op_cell : (kinds : ℕ → Kind) (o : Op) (c d : Contents) → ContentsAgree c d → (id i : ℕ) → Same (op_cell kinds o c id i) (op_cell kinds o d id i)
+pub same_op_cell : (kinds : ℕ → Kind) (o : Op) (c d : Contents) → ContentsAgree c d → (id i : ℕ) → Same (op_cell kinds o c id i) (op_cell kinds o d id i)
 same_op_cell kinds (CopyBuffer src src_at dst dst_at size) c d agree id i = agree src.0 _
 same_op_cell kinds (BufferToImage src src_at stride size dst rect) c d agree id i = same_at_both (behind rect.x rect.w (column_at (kinds dst.0) i)) (behind rect.y rect.h (row_at (kinds dst.0) i)) _ _ _ _ (λ x y. agree src.0 _) (agree id i)
 same_op_cell kinds (ImageToBuffer src rect dst dst_at stride size expand) c d agree id i = same_cond _ _ _ _ _ (same_texel_to_buffer (kinds src.0) (c src.0) (d src.0) expand _ _ _ (agree src.0)) (agree id i)

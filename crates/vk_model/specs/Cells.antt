@@ -1,5 +1,5 @@
 -- The cell that each operation leaves at a place. 256 stands for a cell that is not defined.
-use Rattle.std.specs.Prelude.{ℕ, zero, suc, ◌+◌, ◌-◌, ◌*◌, ◌/◌, ◌%◌, ◌^◌, ◌==◌, nat_lt, nat_le, min, max, ◌&&◌, Bool, true, false, ℤ, pos, negsuc, List, [], ◌∷◌, slice_index, Option, Some, None, if◌then◌else◌}
+use Rattle.std.specs.Prelude.{ℕ, suc, ◌+◌, ◌-◌, ◌*◌, ◌/◌, ◌%◌, ◌^◌, ◌==◌, nat_lt, nat_le, min, max, ◌&&◌, Bool, true, false, ℤ, pos, negsuc, List, [], ◌∷◌, slice_index, Option, Some, None, if◌then◌else◌}
 use Rattle.std.specs.List.{list_all}
 use Rattle.vk_types.specs.declared.handles.Kind.{Kind}
 use Rattle.vk_types.specs.declared.handles.Kind.TheVariants.{Buffer, Image}

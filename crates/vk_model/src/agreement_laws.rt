@@ -1,21 +1,14 @@
 // Bytes that agree with contents.
-ghost use Rattle.std.specs.Prelude.{◌≡◌, ℕ, ℤ, ◌<◌, ◌≤◌, ◌+◌, ◌*◌, min, ◌⊎◌, true, List, [], ◌∷◌, ◌++◌, length, take, slice_get, slice_index, ◌↔◌, Option, Some, None, IfSome, Contains, false, ◌||◌, is_some};
-ghost use Rattle.std.specs.List.{AllByRecursion};
+ghost use Rattle.std.specs.Prelude.{◌≡◌, ℕ, ◌<◌, ◌+◌, true, List, [], ◌∷◌, ◌++◌, length, slice_get, slice_index, Some, false};
 ghost use Rattle.cells.specs.Contents.{cells, Agrees, AgreesAt};
-ghost use Rattle.vk_types.specs.declared.handles.Kind.{Kind};
-ghost use Rattle.vk_types.specs.declared.regions.Barrier.{Barrier};
-ghost use Rattle.vk_types.specs.declared.regions.Rect.{Rect};
-ghost use Rattle.vk_types.specs.declared.handles.HandleId.{HandleId};
-ghost use Rattle.vk_types.specs.declared.ops.Op.TheVariants.{CopyBuffer, ClearImage, CopyImage, BufferToImage};
 ghost use Rattle.vk_types.specs.declared.ops.Node.{Node};
-ghost use Rattle.vk_types.specs.Accesses.{in_common};
-ghost use Rattle.vk_types.specs.Touches.{barrier_of, the_end, rows_size};
-ghost use Rattle.vk_model.specs.Cells.{Contents, place, ahead};
-ghost use Rattle.vk_model.specs.Log.{Item, Command, HostWrite, node_range, clash, touches_object, touches_with, conflict as conflicts, Conflicts, items_clash, HasEdge, IsReady, IsPermitted, NoneEmpty, FindsLayouts, IsSound, commands, NoConflict, ReachesNext, IsOneQueue, is_guarded, NamesAll, IsFenced};
-ghost use Rattle.vk_model.specs.Queues.{IsHandedOver, group_list, HasGroups};
-ghost use Rattle.vk_model.specs.Batches.{Accepted, device_log, BatchesHandOver};
-ghost use Rattle.vk_model.specs.Tracking.{IsLastBarrier, IsTracked, IsSince, TouchesSince};
-ghost use Rattle.vk_model.specs.Meaning.{nothing, found, apply, eval, executed, touches_id, IsSettled, ContentsAgree, LiesIn};
+ghost use Rattle.vk_model.specs.Cells.{op_cell};
+ghost use Rattle.vk_model.specs.Log.{Command};
+ghost use Rattle.vk_model.specs.Meaning.{is_written};
+ghost use Rattle.vk_types.specs.declared.handles.Kind.{Kind};
+ghost use Rattle.vk_model.specs.Cells.{Contents};
+ghost use Rattle.vk_model.specs.Log.{Item, IsPermitted, IsSound};
+ghost use Rattle.vk_model.specs.Meaning.{nothing, apply, eval, executed, IsSettled, ContentsAgree};
 
 /// Contents that agree before an item agree after it.
 pub fn agreement_is_kept()
@@ -42,4 +35,13 @@ pub fn places_agree_as_lists()
         ((i : ℕ) → i < size → AgreesAt (slice_index bytes i) (f i)) → Agrees bytes (cells size f) }
     ensures by_place { (size : ℕ) (bytes : List ℕ) (f : ℕ → ℕ) → Agrees bytes (cells size f) →
         (i : ℕ) → i < size → AgreesAt (slice_index bytes i) (f i) }
+{}
+
+/// Contents agree with those after a node where they have, at each place that is written, what the operation makes of
+/// the old ones, and elsewhere what was there.
+pub fn node_is_executed()
+    ensures { (kinds : ℕ → Kind) (q : ℕ) (n : Node) (old new : Contents) →
+        ((id i : ℕ) → is_written (Command q n) id i ≡ true → AgreesAt (new id i) (op_cell kinds n.op old id i)) →
+        ((id i : ℕ) → is_written (Command q n) id i ≡ false → new id i ≡ old id i) →
+        ContentsAgree new (apply kinds (Command q n) old) }
 {}

@@ -1,20 +1,13 @@
 // What the operations leave at each place.
-ghost use Rattle.std.specs.Prelude.{◌≡◌, ℕ, ℤ, ◌<◌, ◌≤◌, ◌+◌, ◌*◌, min, ◌⊎◌, true, List, [], ◌∷◌, ◌++◌, length, take, slice_get, slice_index, ◌↔◌, Option, Some, None, IfSome, Contains, false, ◌||◌, is_some};
-ghost use Rattle.std.specs.List.{AllByRecursion};
+ghost use Rattle.std.specs.Prelude.{◌≡◌, ℕ, ℤ, ◌<◌, ◌≤◌, ◌+◌, ◌*◌, min, ◌⊎◌, List, slice_index};
 ghost use Rattle.vk_types.specs.declared.handles.Kind.{Kind};
-ghost use Rattle.vk_types.specs.declared.regions.Barrier.{Barrier};
 ghost use Rattle.vk_types.specs.declared.regions.Rect.{Rect};
 ghost use Rattle.vk_types.specs.declared.handles.HandleId.{HandleId};
 ghost use Rattle.vk_types.specs.declared.ops.Op.TheVariants.{CopyBuffer, ClearImage, CopyImage, BufferToImage};
-ghost use Rattle.vk_types.specs.declared.ops.Node.{Node};
-ghost use Rattle.vk_types.specs.Accesses.{in_common};
-ghost use Rattle.vk_types.specs.Touches.{barrier_of, the_end, rows_size};
+ghost use Rattle.vk_types.specs.Touches.{the_end, rows_size};
 ghost use Rattle.vk_model.specs.Cells.{Contents, place, ahead};
-ghost use Rattle.vk_model.specs.Log.{Item, Command, HostWrite, node_range, clash, touches_object, touches_with, conflict as conflicts, Conflicts, items_clash, HasEdge, IsReady, IsPermitted, NoneEmpty, FindsLayouts, IsSound, commands, NoConflict, ReachesNext, IsOneQueue, is_guarded, NamesAll, IsFenced};
-ghost use Rattle.vk_model.specs.Queues.{IsHandedOver, group_list, HasGroups};
-ghost use Rattle.vk_model.specs.Batches.{Accepted, device_log, BatchesHandOver};
-ghost use Rattle.vk_model.specs.Tracking.{IsLastBarrier, IsTracked, IsSince, TouchesSince};
-ghost use Rattle.vk_model.specs.Meaning.{nothing, found, apply, eval, executed, touches_id, IsSettled, ContentsAgree, LiesIn};
+ghost use Rattle.vk_model.specs.Log.{Command};
+ghost use Rattle.vk_model.specs.Meaning.{apply, LiesIn};
 
 /// What a copy between buffers leaves at each place.
 pub fn copy_is_exact()

@@ -1,20 +1,9 @@
 // Which orders are permitted, and that each of them does what the log order does.
-ghost use Rattle.std.specs.Prelude.{◌≡◌, ℕ, ℤ, ◌<◌, ◌≤◌, ◌+◌, ◌*◌, min, ◌⊎◌, true, List, [], ◌∷◌, ◌++◌, length, take, slice_get, slice_index, ◌↔◌, Option, Some, None, IfSome, Contains, false, ◌||◌, is_some};
-ghost use Rattle.std.specs.List.{AllByRecursion};
+ghost use Rattle.std.specs.Prelude.{◌≡◌, ℕ, ◌<◌, ◌+◌, List, [], ◌∷◌, ◌++◌, length, take, slice_get, ◌↔◌, Some, Contains};
 ghost use Rattle.vk_types.specs.declared.handles.Kind.{Kind};
-ghost use Rattle.vk_types.specs.declared.regions.Barrier.{Barrier};
-ghost use Rattle.vk_types.specs.declared.regions.Rect.{Rect};
-ghost use Rattle.vk_types.specs.declared.handles.HandleId.{HandleId};
-ghost use Rattle.vk_types.specs.declared.ops.Op.TheVariants.{CopyBuffer, ClearImage, CopyImage, BufferToImage};
 ghost use Rattle.vk_types.specs.declared.ops.Node.{Node};
-ghost use Rattle.vk_types.specs.Accesses.{in_common};
-ghost use Rattle.vk_types.specs.Touches.{barrier_of, the_end, rows_size};
-ghost use Rattle.vk_model.specs.Cells.{Contents, place, ahead};
-ghost use Rattle.vk_model.specs.Log.{Item, Command, HostWrite, node_range, clash, touches_object, touches_with, conflict as conflicts, Conflicts, items_clash, HasEdge, IsReady, IsPermitted, NoneEmpty, FindsLayouts, IsSound, commands, NoConflict, ReachesNext, IsOneQueue, is_guarded, NamesAll, IsFenced};
-ghost use Rattle.vk_model.specs.Queues.{IsHandedOver, group_list, HasGroups};
-ghost use Rattle.vk_model.specs.Batches.{Accepted, device_log, BatchesHandOver};
-ghost use Rattle.vk_model.specs.Tracking.{IsLastBarrier, IsTracked, IsSince, TouchesSince};
-ghost use Rattle.vk_model.specs.Meaning.{nothing, found, apply, eval, executed, touches_id, IsSettled, ContentsAgree, LiesIn};
+ghost use Rattle.vk_model.specs.Log.{Item, HostWrite, conflict as conflicts, HasEdge, IsReady, IsPermitted, IsSound};
+ghost use Rattle.vk_model.specs.Meaning.{found, apply, eval, executed, IsSettled};
 
 /// An order is permitted exactly where each item may run after those before it: it is in the log, it has not run, and
 /// all that reach it have.
