@@ -71,7 +71,7 @@ OpFits kinds (CopyImage src src_x src_y dst rect) =
 OpFits kinds (BlitImage src dst coords clip) = IsImage (kinds src.0) × HasRect (kinds dst.0) clip × (src.0 ≢ dst.0)
 OpFits kinds (ClearImage image rect texel) = HasRect (kinds image.0) rect
 OpFits kinds (FillBuffer dst dst_at size byte) = HasRange (kinds dst.0) dst_at size
-OpFits kinds (PassPart pass point image load keep clears) = IsImage (kinds image.0) × All (λ clear. HasRect (kinds image.0) clear.rect) clears
+OpFits kinds (PassPart _ _ image _ _ clears) = IsImage (kinds image.0) × All (λ clear. HasRect (kinds image.0) clear.rect) clears
 OpFits kinds (Op.Barrier b) = IsSome (kinds b.id.0)
 
 abbrev pub NodeFits : (ℕ → Option Kind) → Node → Type 0
