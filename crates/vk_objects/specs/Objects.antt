@@ -1,22 +1,17 @@
 -- Live objects by their numbers, each with its kind and its bytes.
-use Rattle.std.specs.Prelude.{◌≡◌, ◌≢◌, ℕ, ◌*◌, ◌≤◌, ◌<◌, List, [], length, Option, Some, None, option_map, replicate}
+use Rattle.std.specs.Prelude.{◌≡◌, ◌≢◌, ℕ, ◌*◌, ◌≤◌, ◌<◌, List, [], length, Option, Some, None, option_map, replicate, unwrap_or}
 use Rattle.std.specs.BTreeMap.{get}
 use Rattle.std.specs.Ordering.{nat_cmp}
 use Rattle.vk_types.specs.declared.handles.Kind.{Kind}
 use Rattle.vk_types.specs.declared.handles.Kind.TheVariants.{Buffer, Image}
-use Rattle.vk_model.specs.Texels.{texel_bytes}
+use Rattle.cells.specs.Contents.{cell_at}
+use Rattle.vk_model.specs.Cells.{Contents}
+use Rattle.vk_model.specs.Log.{Command}
+use Rattle.vk_model.specs.Meaning.{apply, ContentsAgree}
+use Rattle.vk_model.specs.Fitting.{size_of, IsKind}
+use Rattle.vk_types.specs.declared.ops.Node.{Node}
 use Rattle.vk_objects.specs.declared.objects.Object.{Object}
 use Rattle.vk_objects.specs.declared.objects.Objects.{Objects}
-
--- the bytes that an object of a kind has
-abbrev pub size_of : Kind → ℕ
-size_of (Buffer size) = size
-size_of (Image format width height) = width * height * texel_bytes format
-
--- the kinds that an object may have: an image is small, and of one of the twelve formats
-abbrev pub IsKind : Kind → Type 0
-IsKind (Buffer size) = Unit {0}
-IsKind (Image format width height) = (format < 12) × (1 ≤ width) × (width ≤ 2048) × (1 ≤ height) × (height ≤ 2048)
 
 -- an object whose bytes are all 0
 abbrev pub new_object : Kind → Object
@@ -50,3 +45,28 @@ pub record SetsBytes (old new : Objects) (id : ℕ) (bytes : List ℕ) : Type 0 
 -- nothing changed
 abbrev pub IsUnchanged : Objects → Objects → Type 0
 IsUnchanged old new = (id : ℕ) → object_at new id ≡ object_at old id
+
+-- Contents
+
+-- the kind of each object; one that is not live has no bytes
+abbrev pub kinds_of : Objects → ℕ → Kind
+kinds_of objects id = unwrap_or (kind_of objects id) (Buffer 0)
+
+-- the bytes of each object as a content, which is not defined past their end
+abbrev pub contents_of : Objects → Contents
+contents_of objects id i = cell_at (bytes_of objects id) i
+
+-- the bytes that an object of this kind has
+abbrev pub HasSize : Option Kind → List ℕ → Type 0
+HasSize None bytes = bytes ≡ []
+HasSize (Some kind) bytes = IsKind kind × (length bytes ≡ size_of kind)
+
+-- each live object has all its bytes
+abbrev pub HaveSizes : Objects → Type 0
+HaveSizes objects = (id : ℕ) → HasSize (kind_of objects id) (bytes_of objects id)
+
+-- The bytes agree with the contents after the node, and nothing but bytes changed.
+pub record Executes (old new : Objects) (n : Node) : Type 0 where
+  pub agree : ContentsAgree (contents_of new) (apply (kinds_of old) (Command 0 n) (contents_of old))
+  pub kinds : (id : ℕ) → kind_of new id ≡ kind_of old id
+  pub sizes : (id : ℕ) → length (bytes_of new id) ≡ length (bytes_of old id)

@@ -2,8 +2,9 @@
 ghost use Rattle.std.specs.Prelude.{◌≡◌, ℕ, [], None, Some, IsSome, OnOk, OnErr, option_map, replicate};
 ghost use Rattle.std.specs.Prelude.{◌<◌};
 ghost use Rattle.vk_model.specs.Texels.{texel_bytes};
+ghost use Rattle.vk_model.specs.Fitting.{size_of, IsKind};
 ghost use Rattle.std.specs.Option.{option_copied};
-ghost use Rattle.vk_objects.specs.Objects.{object_at, kind_of, bytes_of, size_of, new_object, IsKind, IsUnchanged, SetsBytes, SetsObject};
+ghost use Rattle.vk_objects.specs.Objects.{object_at, kind_of, bytes_of, new_object, IsUnchanged, SetsBytes, SetsObject};
 
 use cells::Bytes;
 use std::alloc::{AllocError, Global};

@@ -1,0 +1,4 @@
+pub mod Parts
+pub mod Executing
+pub mod BufferNodes
+pub mod RowSteps
