@@ -2,3 +2,5 @@ pub mod Parts
 pub mod Executing
 pub mod BufferNodes
 pub mod RowSteps
+pub mod Paints
+pub mod ImageNodes

@@ -1,16 +1,14 @@
 -- Rows of a rectangle of an image that are written one after another.
-use Rattle.std.proofs.Common.{◌≡◌, ◌≢◌, ℕ, ◌+◌, ◌-◌, ◌*◌, ◌/◌, ◌%◌, ◌<◌, ◌≤◌, List, length, Bool, true, false, refl, sym, ◌∙◌, ap, subst, arith, inl, inr}
+use Rattle.std.proofs.Common.{◌≡◌, ◌≢◌, ℕ, ◌+◌, ◌-◌, ◌*◌, ◌/◌, ◌%◌, ◌<◌, ◌≤◌, Bool, true, false, refl, sym, ◌∙◌, ap, subst, arith, inl, inr}
 use Rattle.std.specs.Prelude.{◌⊎◌, ℤ, pos, Option, Some, None, nat_eq, nat_lt, nat_le}
 use Rattle.std.proofs.lemmas.Bool.{cases_Bool, eqb-true, eqb-false, ltb-true, ltb-false, leb-true, leb-false}
 use Rattle.std.proofs.lemmas.Nat.{div-add-mod', div_below, mod_below}
 use Rattle.vk_types.specs.declared.handles.Kind.{Kind}
 use Rattle.vk_types.specs.declared.regions.Rect.{Rect}
-use Rattle.cells.specs.Contents.{cell_at, overwritten}
 use Rattle.vk_model.specs.Cells.{place, column_at, row_at, byte_at, width_of, texel_size, behind, at_both, in_rect}
 use Rattle.vk_model.proofs.Images.{byte_of_place, behind_in, behind_out, in_rect_inside}
-use Rattle.vk_objects.proofs.Parts.{overwritten-outside, overwritten-inside}
 
-distributes : (a b t : ℕ) → (a + b) * t ≡ a * t + b * t
+pub distributes : (a b t : ℕ) → (a + b) * t ≡ a * t + b * t
 distributes a b t = omega arith
 
 -- the first k rows of a rectangle
@@ -46,7 +44,7 @@ module _ (kind : Kind) (rect : Rect) (left top : ℕ) (x_is : rect.x ≡ pos lef
       let g : ℕ → ℕ = λ i. so_far kind rect f (k + 1) i old in
       ap g (in_row k j)
       ∙ in_rect_inside kind (first_rows rect (k + 1)) left top x_is y_is (left + j / t) (top + k) (j % t) (omega (arith, column, right)) byte
-        (λ x y. f x y (byte_at kind (place kind (left + j / t) (top + k) (j % t)))) old (omega arith) (omega (arith, column)) (omega arith) (omega arith)
+      (λ x y. f x y (byte_at kind (place kind (left + j / t) (top + k) (j % t)))) old (omega arith) (omega (arith, column)) (omega arith) (omega arith)
       ∙ ap (λ x. f x (top + k - top) (byte_at kind (place kind (left + j / t) (top + k) (j % t)))) (let e : left + j / t - left ≡ j / t = omega arith in e)
       ∙ ap (λ y. f (j / t) y (byte_at kind (place kind (left + j / t) (top + k) (j % t)))) (let e : top + k - top ≡ k = omega arith in e)
       ∙ ap (f (j / t) k) (byte_of_place kind (left + j / t) (top + k) (j % t) byte)
@@ -101,26 +99,22 @@ module _ (kind : Kind) (rect : Rect) (left top : ℕ) (x_is : rect.x ≡ pos lef
       go (inl same) = column_apart k i old (beside (eqb-true (row_at kind i) (top + k) same) (cases_Bool (nat_lt (column_at kind i) left)) (cases_Bool (nat_lt (column_at kind i) (left + rect.w))))
       go (inr other) = ap (λ o. at_both (behind rect.x rect.w (column_at kind i)) o (λ x y. f x y (byte_at kind i)) old) (row_apart k (row_at kind i) (eqb-false (row_at kind i) (top + k) other))
 
-  -- One more row.
-  pub row_step : (k : ℕ) (xs row : List ℕ) (old : ℕ → ℕ)
-      → ((i : ℕ) → cell_at xs i ≡ so_far kind rect f k i (old i))
-      → length row ≡ rect.w * texel_size kind
-      → place kind left (top + k) 0 + rect.w * texel_size kind ≤ length xs
-      → ((j : ℕ) → j < rect.w * texel_size kind → cell_at row j ≡ f (j / texel_size kind) k (j % texel_size kind))
-      → (i : ℕ) → cell_at (overwritten xs (place kind left (top + k) 0) row) i ≡ so_far kind rect f (k + 1) i (old i)
-  row_step k xs row old before len inside is i = go (cases_Bool (nat_lt i (place kind left (top + k) 0))) (cases_Bool (nat_lt i (place kind left (top + k) 0 + rect.w * texel_size kind)))
+  -- One more row: its places have what f says, and all others stay.
+  pub row_step : (k : ℕ) (xs ys old : ℕ → ℕ)
+      → ((i : ℕ) → xs i ≡ so_far kind rect f k i (old i))
+      → ((j : ℕ) → j < rect.w * texel_size kind → ys (place kind left (top + k) 0 + j) ≡ f (j / texel_size kind) k (j % texel_size kind))
+      → ((i : ℕ) → (i < place kind left (top + k) 0) ⊎ (place kind left (top + k) 0 + rect.w * texel_size kind ≤ i) → ys i ≡ xs i)
+      → (i : ℕ) → ys i ≡ so_far kind rect f (k + 1) i (old i)
+  row_step k xs ys old before inside outside i = go (cases_Bool (nat_lt i (place kind left (top + k) 0))) (cases_Bool (nat_lt i (place kind left (top + k) 0 + rect.w * texel_size kind)))
     where
-      fits : place kind left (top + k) 0 + length row ≤ length xs
-      fits = omega (arith, len, inside)
-
       go : (nat_lt i (place kind left (top + k) 0) ≡ true) ⊎ (nat_lt i (place kind left (top + k) 0) ≡ false) → (nat_lt i (place kind left (top + k) 0 + rect.w * texel_size kind) ≡ true) ⊎ (nat_lt i (place kind left (top + k) 0 + rect.w * texel_size kind) ≡ false)
-          → cell_at (overwritten xs (place kind left (top + k) 0) row) i ≡ so_far kind rect f (k + 1) i (old i)
+          → ys i ≡ so_far kind rect f (k + 1) i (old i)
       go (inl b) rest =
           let lt : i < place kind left (top + k) 0 = ltb-true i (place kind left (top + k) 0) b in
-          overwritten-outside xs (place kind left (top + k) 0) row fits i (inl lt) ∙ before i ∙ sym (kept_now k i (old i) (inl lt))
+          outside i (inl lt) ∙ before i ∙ sym (kept_now k i (old i) (inl lt))
       go (inr from) (inr past) =
           let le : place kind left (top + k) 0 + rect.w * texel_size kind ≤ i = ltb-false i (place kind left (top + k) 0 + rect.w * texel_size kind) past in
-          overwritten-outside xs (place kind left (top + k) 0) row fits i (inr (omega (arith, len, le))) ∙ before i ∙ sym (kept_now k i (old i) (inr le))
+          outside i (inr le) ∙ before i ∙ sym (kept_now k i (old i) (inr le))
       go (inr from) (inl below) =
           let at = place kind left (top + k) 0 in
           let ge : at ≤ i = ltb-false i at from in
@@ -128,8 +122,18 @@ module _ (kind : Kind) (rect : Rect) (left top : ℕ) (x_is : rect.x ≡ pos lef
           let j : ℕ = i - at in
           let e : at + j ≡ i = omega (arith, ge) in
           let j_lt : j < rect.w * texel_size kind = omega (arith, ge, lt) in
-          ap (cell_at (overwritten xs at row)) (sym e)
-          ∙ overwritten-inside xs at row fits j (omega (arith, len, j_lt))
-          ∙ is j j_lt
-          ∙ sym (written_now k j j_lt (old i))
-          ∙ ap (λ p. so_far kind rect f (k + 1) p (old i)) e
+          ap ys (sym e) ∙ inside j j_lt ∙ sym (written_now k j j_lt (old i)) ∙ ap (λ p. so_far kind rect f (k + 1) p (old i)) e
+
+  -- No row yet.
+  pub no_row : (i old : ℕ) → old ≡ so_far kind rect f 0 i old
+  no_row i old = sym (ap (λ o. at_both (behind rect.x rect.w (column_at kind i)) o (λ x y. f x y (byte_at kind i)) old) (ap (λ z. behind z 0 (row_at kind i)) y_is ∙ never) ∙ nothing_there (behind rect.x rect.w (column_at kind i)))
+    where
+      never : behind (pos top) 0 (row_at kind i) ≡ None
+      never = elim (cases_Bool (nat_lt (row_at kind i) top)) [
+        | inl before ↦ behind_out top 0 (row_at kind i) (inl (ltb-true (row_at kind i) top before))
+        | inr from ↦ behind_out top 0 (row_at kind i) (inr (let le : top ≤ row_at kind i = ltb-false (row_at kind i) top from in omega (arith, le)))
+      ]
+
+      nothing_there : (o : Option ℕ) → at_both o None (λ x y. f x y (byte_at kind i)) old ≡ old
+      nothing_there None = refl
+      nothing_there (Some a) = refl

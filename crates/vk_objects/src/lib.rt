@@ -2,6 +2,8 @@
 #![tactic(auto)]
 
 mod buffers;
+mod images;
 mod objects;
+mod shapes;
 
 pub use objects::Objects;

@@ -1,0 +1,49 @@
+-- Areas of images that are written row by row.
+use Rattle.std.proofs.Common.{◌≡◌, ℕ, ◌+◌, ◌*◌, ◌/◌, ◌%◌, ◌<◌, ◌≤◌, List, length, take, refl, sym, ◌∙◌, ap, subst, arith}
+use Rattle.std.specs.Prelude.{slice_index, ◌⊎◌}
+use Rattle.std.proofs.Math.Nat.{mul-le-mul_right}
+use Rattle.std.proofs.lemmas.Nat.{mod_below}
+use Rattle.std.proofs.lemmas.List.{get_or-take}
+use Rattle.std.proofs.lemmas.Grind.{get_or_default_zero}
+use Rattle.cells.specs.Contents.{UNDEFINED, cell_at}
+use Rattle.vk_types.specs.declared.handles.Kind.{Kind}
+use Rattle.vk_types.specs.declared.regions.Rect.{Rect}
+use Rattle.vk_model.specs.Cells.{place, texel_size}
+use Rattle.vk_objects.specs.declared.shapes.Shape.{Shape}
+use Rattle.vk_objects.specs.declared.shapes.Area.{Area}
+use Rattle.vk_objects.specs.Images.{kind_of_shape, rect_of, IsInside, HasAll, IsPainted, IsCleared}
+use Rattle.vk_objects.proofs.RowSteps.{distributes, first_rows, so_far, row_step, no_row}
+
+module _ (s : Shape) (a : Area) (inside : IsInside a s) (some : 0 < texel_size (kind_of_shape s)) where
+  -- a row of the area lies in the image's bytes
+  pub row_fits : (k len : ℕ) → k < a.height → HasAll s len → place (kind_of_shape s) a.left (a.top + k) 0 + a.width * texel_size (kind_of_shape s) ≤ len
+  row_fits k len below all =
+      let w = s.width in let t = texel_size (kind_of_shape s) in
+      let rows : (a.top + k + 1) * w ≤ s.height * w = mul-le-mul_right w (omega (arith, inside.rows, below)) in
+      let split : (a.top + k + 1) * w ≡ (a.top + k) * w + 1 * w = distributes (a.top + k) 1 w in
+      let one : 1 * w ≡ w = omega arith in
+      let turned : s.height * w ≡ w * s.height = omega arith in
+      let line : (a.top + k) * w + a.left + a.width ≤ w * s.height = omega (arith, rows, split, one, turned, inside.columns) in
+      let texels : ((a.top + k) * w + a.left + a.width) * t ≤ w * s.height * t = mul-le-mul_right t line in
+      let parts : ((a.top + k) * w + a.left + a.width) * t ≡ ((a.top + k) * w + a.left) * t + a.width * t = distributes ((a.top + k) * w + a.left) a.width t in
+      omega (arith, texels, parts, all)
+
+  pub clear_starts : (old texel : List ℕ) → IsCleared old old (kind_of_shape s) (first_rows (rect_of a) 0) texel
+  clear_starts old texel i = no_row (kind_of_shape s) (rect_of a) a.left a.top refl refl some inside.columns (λ x y b. slice_index texel b) i (cell_at old i)
+
+  pub clear_step : (k : ℕ) (old now new texel start : List ℕ) → length start ≡ texel_size (kind_of_shape s)
+      → ((b : ℕ) → b < texel_size (kind_of_shape s) → cell_at start b ≡ slice_index texel b)
+      → IsCleared old now (kind_of_shape s) (first_rows (rect_of a) k) texel
+      → IsPainted now new (place (kind_of_shape s) a.left (a.top + k) 0) a.width start
+      → IsCleared old new (kind_of_shape s) (first_rows (rect_of a) (k + 1)) texel
+  clear_step k old now new texel start len is before painted =
+      row_step (kind_of_shape s) (rect_of a) a.left a.top refl refl some inside.columns (λ x y b. slice_index texel b) k (cell_at now) (cell_at new) (cell_at old) before
+      (λ j lt.
+      painted.inside j (subst (λ t. j < a.width * t) (sym len) lt)
+      ∙ ap (λ t. cell_at start (j % t)) len
+      ∙ is (j % texel_size (kind_of_shape s)) (mod_below j (texel_size (kind_of_shape s)) some))
+      (λ i out. painted.outside i (subst (λ t. (i < place (kind_of_shape s) a.left (a.top + k) 0) ⊎ (place (kind_of_shape s) a.left (a.top + k) 0 + a.width * t ≤ i)) (sym len) out))
+
+-- the first bytes of a texel
+pub texel_start : (n : ℕ) (texel : List ℕ) → n ≤ length texel → (b : ℕ) → b < n → cell_at (take n texel) b ≡ slice_index texel b
+texel_start n texel enough b lt = get_or-take n texel b UNDEFINED lt ∙ get_or_default_zero texel b UNDEFINED (omega (arith, enough, lt))

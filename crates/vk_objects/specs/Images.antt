@@ -1,0 +1,34 @@
+-- Shapes of images, and rectangles inside them.
+use Rattle.std.specs.Prelude.{◌≡◌, ℕ, ◌+◌, ◌*◌, ◌%◌, ◌<◌, ◌≤◌, ◌⊎◌, List, length, pos}
+use Rattle.vk_types.specs.declared.handles.Kind.{Kind}
+use Rattle.vk_types.specs.declared.handles.Kind.TheVariants.{Image}
+use Rattle.vk_types.specs.declared.regions.Rect.{Rect}
+use Rattle.cells.specs.Contents.{cell_at}
+use Rattle.vk_model.specs.Cells.{clear_image}
+use Rattle.vk_model.specs.Fitting.{size_of}
+use Rattle.vk_objects.specs.declared.shapes.Shape.{Shape}
+use Rattle.vk_objects.specs.declared.shapes.Area.{Area}
+
+abbrev pub kind_of_shape : Shape → Kind
+kind_of_shape s = Image s.format s.width s.height
+
+abbrev pub rect_of : Area → Rect
+rect_of a = record { x = pos a.left; y = pos a.top; w = a.width; h = a.height }
+
+-- the area lies inside the image
+pub record IsInside (a : Area) (s : Shape) : Type 0 where
+  pub columns : a.left + a.width ≤ s.width
+  pub rows : a.top + a.height ≤ s.height
+
+-- as many bytes as the image has
+abbrev pub HasAll : Shape → ℕ → Type 0
+HasAll s len = len ≡ size_of (kind_of_shape s)
+
+-- A texel stands so many times from a place on, and all else is as it was.
+pub record IsPainted (old new : List ℕ) (at count : ℕ) (texel : List ℕ) : Type 0 where
+  pub inside : (j : ℕ) → j < count * length texel → cell_at new (at + j) ≡ cell_at texel (j % length texel)
+  pub outside : (i : ℕ) → (i < at) ⊎ (at + count * length texel ≤ i) → cell_at new i ≡ cell_at old i
+
+-- each place is as the operation leaves it
+abbrev pub IsCleared : List ℕ → List ℕ → Kind → Rect → List ℕ → Type 0
+IsCleared old new kind rect texel = (i : ℕ) → cell_at new i ≡ clear_image kind rect texel i (cell_at old i)
