@@ -11,6 +11,7 @@ use Rattle.vk_types.specs.declared.ops.Op.TheVariants.{CopyBuffer, BufferToImage
 use Rattle.cells.specs.Contents.{UNDEFINED, cells}
 use Rattle.std.specs.List.{range_with_len}
 use Rattle.vk_model.specs.Cells.{Contents, at_both, behind, column_at, row_at, byte_at, place, all_defined, converted, texel_to_buffer, clear_image, loaded, cleared, discards, op_cell, format_of, width_of, height_of, texel_size, source_of, nearest_texel}
+use Rattle.vk_model.specs.Fitting.{size_of}
 use Rattle.vk_model.specs.Texels.{expanded_texel, converted_texel}
 use Rattle.vk_types.specs.declared.regions.Coords.{Coords}
 use Rattle.vk_model.specs.Log.{Item, Command, HostWrite, Wait, Signal}
@@ -53,10 +54,10 @@ same_cleared kind (clear ∷ clears) i a b same =
     same_cleared kind clears i (clear_image kind clear.rect clear.texel i a) (clear_image kind clear.rect clear.texel i b)
     (same_at_both (behind clear.rect.x clear.rect.w (column_at kind i)) (behind clear.rect.y clear.rect.h (row_at kind i)) (λ x y. slice_index clear.texel (byte_at kind i)) (λ x y. slice_index clear.texel (byte_at kind i)) a b (λ x y below. refl) same)
 
-same_loaded : (load' : Load) (byte a b : ℕ) → Same a b → Same (loaded load' byte a) (loaded load' byte b)
-same_loaded Load.Load byte a b same = same
-same_loaded (Load.Clear texel) byte a b same = λ below. refl
-same_loaded DontCare byte a b same = λ below. refl
+same_loaded : (kind : Kind) (load' : Load) (i a b : ℕ) → Same a b → Same (loaded kind load' i a) (loaded kind load' i b)
+same_loaded kind Load.Load i a b same = same
+same_loaded kind (Load.Clear texel) i a b same = same_cond (nat_lt i (size_of kind)) (slice_index texel (byte_at kind i)) a (slice_index texel (byte_at kind i)) b (λ below. refl) same
+same_loaded kind DontCare i a b same = λ below. refl
 
 same_texel_to_buffer : (kind : Kind) (src src' : ℕ → ℕ) (expand : Bool) (x y byte : ℕ) → ((p : ℕ) → Same (src p) (src' p)) → Same (texel_to_buffer kind src expand x y byte) (texel_to_buffer kind src' expand x y byte)
 same_texel_to_buffer kind src src' true x y byte same = same_converted (expanded_texel (format_of kind)) (λ b. src (place kind x y b)) (λ b. src' (place kind x y b)) (texel_size kind) byte (λ b. same (place kind x y b))
@@ -81,7 +82,7 @@ same_op_cell kinds (CopyImage src src_x src_y dst rect) c d agree id i = same_at
 same_op_cell kinds (BlitImage src dst coords clip) c d agree id i = same_at_both (behind clip.x clip.w (column_at (kinds dst.0) i)) (behind clip.y clip.h (row_at (kinds dst.0) i)) _ _ _ _ (λ x y. same_nearest_texel (kinds src.0) (kinds dst.0) (c src.0) (d src.0) coords i (c id i) (d id i) (agree src.0) (agree id i)) (agree id i)
 same_op_cell kinds (ClearImage image rect texel) c d agree id i = same_at_both (behind rect.x rect.w (column_at (kinds image.0) i)) (behind rect.y rect.h (row_at (kinds image.0) i)) _ _ _ _ (λ x y below. refl) (agree id i)
 same_op_cell kinds (FillBuffer dst dst_at size byte) c d agree id i = λ below. refl
-same_op_cell kinds (PassPart pass point image load' keep clears) c d agree id i = same_cond keep _ _ _ _ (same_cleared (kinds image.0) clears i _ _ (same_loaded load' (byte_at (kinds image.0) i) _ _ (agree id i))) (λ below. refl)
+same_op_cell kinds (PassPart pass point image load' keep clears) c d agree id i = same_cond keep _ _ _ _ (same_cleared (kinds image.0) clears i _ _ (same_loaded (kinds image.0) load' i _ _ (agree id i))) (λ below. refl)
 same_op_cell kinds (Op.Barrier b) c d agree id i = same_cond (discards b.layouts) _ _ _ _ (λ below. refl) (agree id i)
 
 same_item_cell : (kinds : ℕ → Kind) (x : Item) (c d : Contents) → ContentsAgree c d → (id i : ℕ) → Same (item_cell kinds x c id i) (item_cell kinds x d id i)

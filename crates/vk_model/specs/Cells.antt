@@ -14,6 +14,7 @@ use Rattle.vk_types.specs.declared.ops.Op.{Op}
 use Rattle.vk_types.specs.declared.ops.Op.TheVariants.{CopyBuffer, BufferToImage, ImageToBuffer, CopyImage, BlitImage, ClearImage, FillBuffer, PassPart}
 use Rattle.cells.specs.Contents.{UNDEFINED, cells}
 use Rattle.vk_types.specs.Touches.{buffer_texel}
+use Rattle.vk_model.specs.Fitting.{size_of}
 use Rattle.vk_model.specs.Texels.{texel_bytes, expanded_texel, converted_texel}
 
 -- the cell of each object at each place: a byte, or UNDEFINED
@@ -164,10 +165,11 @@ nearest_texel from to src coords i old =
 abbrev pub blit_image : Kind → Kind → (ℕ → ℕ) → Coords → Rect → ℕ → ℕ → ℕ
 blit_image from to src coords clip i old = in_rect to clip i (λ _ _. nearest_texel from to src coords i old) old
 
-abbrev pub loaded : Load → ℕ → ℕ → ℕ
-loaded Load.Load byte old = old
-loaded (Load.Clear texel) byte old = slice_index texel byte
-loaded DontCare byte old = UNDEFINED
+-- what a pass finds at a place; a load that clears writes the texel to each place of the image
+abbrev pub loaded : Kind → Load → ℕ → ℕ → ℕ
+loaded kind Load.Load i old = old
+loaded kind (Load.Clear texel) i old = if nat_lt i (size_of kind) then slice_index texel (byte_at kind i) else old
+loaded kind DontCare i old = UNDEFINED
 
 -- the clears in order, each over those before it
 abbrev pub cleared : Kind → List Clear → ℕ → ℕ → ℕ
@@ -175,7 +177,7 @@ cleared kind [] i old = old
 cleared kind (clear ∷ clears) i old = cleared kind clears i (clear_image kind clear.rect clear.texel i old)
 
 abbrev pub pass_part : Kind → Load → Bool → List Clear → ℕ → ℕ → ℕ
-pass_part kind load keep clears i old = if keep then cleared kind clears i (loaded load (byte_at kind i) old) else UNDEFINED
+pass_part kind load keep clears i old = if keep then cleared kind clears i (loaded kind load i old) else UNDEFINED
 
 abbrev pub op_cell : (ℕ → Kind) → Op → Contents → ℕ → ℕ → ℕ
 op_cell kinds (CopyBuffer src src_at dst dst_at size) c id i = c src.0 (src_at + (i - dst_at))
