@@ -2,16 +2,17 @@
 use Rattle.std.proofs.Common.{◌≡◌, ℕ, ◌+◌, ◌*◌, ◌/◌, ◌%◌, ◌<◌, ◌≤◌, List, length, take, refl, sym, ◌∙◌, ap, subst, arith}
 use Rattle.std.specs.Prelude.{slice_index, ◌⊎◌}
 use Rattle.std.proofs.Math.Nat.{mul-le-mul_right}
-use Rattle.std.proofs.lemmas.Nat.{mod_below}
+use Rattle.std.proofs.lemmas.Nat.{mod_below, div-add-mod'}
 use Rattle.std.proofs.lemmas.List.{get_or-take}
 use Rattle.std.proofs.lemmas.Grind.{get_or_default_zero}
-use Rattle.cells.specs.Contents.{UNDEFINED, cell_at}
+use Rattle.cells.specs.Contents.{UNDEFINED, cell_at, part, overwritten}
 use Rattle.vk_types.specs.declared.handles.Kind.{Kind}
 use Rattle.vk_types.specs.declared.regions.Rect.{Rect}
 use Rattle.vk_model.specs.Cells.{place, texel_size}
 use Rattle.vk_objects.specs.declared.shapes.Shape.{Shape}
 use Rattle.vk_objects.specs.declared.shapes.Area.{Area}
-use Rattle.vk_objects.specs.Images.{kind_of_shape, rect_of, IsInside, HasAll, IsPainted, IsCleared}
+use Rattle.vk_objects.specs.Images.{kind_of_shape, rect_of, IsInside, HasAll, IsPainted, IsCleared, HasRows, AreWritten}
+use Rattle.vk_objects.proofs.Parts.{overwritten-inside, overwritten-outside, part-at, length-part}
 use Rattle.vk_objects.proofs.RowSteps.{distributes, first_rows, so_far, row_step, no_row}
 
 module _ (s : Shape) (a : Area) (inside : IsInside a s) (some : 0 < texel_size (kind_of_shape s)) where
@@ -43,6 +44,29 @@ module _ (s : Shape) (a : Area) (inside : IsInside a s) (some : 0 < texel_size (
       ∙ ap (λ t. cell_at start (j % t)) len
       ∙ is (j % texel_size (kind_of_shape s)) (mod_below j (texel_size (kind_of_shape s)) some))
       (λ i out. painted.outside i (subst (λ t. (i < place (kind_of_shape s) a.left (a.top + k) 0) ⊎ (place (kind_of_shape s) a.left (a.top + k) 0 + a.width * t ≤ i)) (sym len) out))
+
+  pub rows_start : (old from : List ℕ) (at stride : ℕ) → AreWritten old old (kind_of_shape s) (first_rows (rect_of a) 0) from at stride
+  rows_start old from at stride i =
+      let t = texel_size (kind_of_shape s) in
+      no_row (kind_of_shape s) (rect_of a) a.left a.top refl refl some inside.columns (λ x y b. cell_at from (at + y * stride + x * t + b)) i (cell_at old i)
+
+  pub rows_step : (k : ℕ) (old now from : List ℕ) (at stride : ℕ)
+      → k < a.height → HasAll s (length now)
+      → at + k * stride + a.width * texel_size (kind_of_shape s) ≤ length from
+      → AreWritten old now (kind_of_shape s) (first_rows (rect_of a) k) from at stride
+      → AreWritten old (overwritten now (place (kind_of_shape s) a.left (a.top + k) 0) (part from (at + k * stride) (a.width * texel_size (kind_of_shape s)))) (kind_of_shape s) (first_rows (rect_of a) (k + 1)) from at stride
+  rows_step k old now from at stride below all has before =
+      let kind = kind_of_shape s in let t = texel_size kind in let row = part from (at + k * stride) (a.width * t) in let start = place kind a.left (a.top + k) 0 in
+      let len : length row ≡ a.width * t = length-part from (at + k * stride) (a.width * t) has in
+      let fits : start + length row ≤ length now = subst (λ n. start + n ≤ length now) (sym len) (row_fits k (length now) below all) in
+      row_step kind (rect_of a) a.left a.top refl refl some inside.columns (λ x y b. cell_at from (at + y * stride + x * t + b)) k (cell_at now) (cell_at (overwritten now start row)) (cell_at old) before
+      (λ j lt.
+      let split : j / t * t + j % t ≡ j = div-add-mod' j t in
+      let joined : at + k * stride + j ≡ at + k * stride + j / t * t + j % t = omega (arith, split) in
+      overwritten-inside now start row fits j (subst (λ n. j < n) (sym len) lt)
+      ∙ part-at from (at + k * stride) (a.width * t) j lt
+      ∙ ap (cell_at from) joined)
+      (λ i out. overwritten-outside now start row fits i (subst (λ n. (i < start) ⊎ (start + n ≤ i)) (sym len) out))
 
 -- the first bytes of a texel
 pub texel_start : (n : ℕ) (texel : List ℕ) → n ≤ length texel → (b : ℕ) → b < n → cell_at (take n texel) b ≡ slice_index texel b

@@ -4,3 +4,4 @@ pub mod BufferNodes
 pub mod RowSteps
 pub mod Paints
 pub mod ImageNodes
+pub mod OutRows

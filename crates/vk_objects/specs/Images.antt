@@ -4,7 +4,7 @@ use Rattle.vk_types.specs.declared.handles.Kind.{Kind}
 use Rattle.vk_types.specs.declared.handles.Kind.TheVariants.{Image}
 use Rattle.vk_types.specs.declared.regions.Rect.{Rect}
 use Rattle.cells.specs.Contents.{cell_at}
-use Rattle.vk_model.specs.Cells.{clear_image}
+use Rattle.vk_model.specs.Cells.{texel_size, clear_image, buffer_to_image}
 use Rattle.vk_model.specs.Fitting.{size_of}
 use Rattle.vk_objects.specs.declared.shapes.Shape.{Shape}
 use Rattle.vk_objects.specs.declared.shapes.Area.{Area}
@@ -32,3 +32,11 @@ pub record IsPainted (old new : List ℕ) (at count : ℕ) (texel : List ℕ) : 
 -- each place is as the operation leaves it
 abbrev pub IsCleared : List ℕ → List ℕ → Kind → Rect → List ℕ → Type 0
 IsCleared old new kind rect texel = (i : ℕ) → cell_at new i ≡ clear_image kind rect texel i (cell_at old i)
+
+-- so many rows of so many bytes, with a stride from each to the next, lie in the bytes
+abbrev pub HasRows : ℕ → ℕ → ℕ → ℕ → ℕ → Type 0
+HasRows len at stride count size = (k : ℕ) → k < count → at + k * stride + size ≤ len
+
+-- each place is as the rows leave it
+abbrev pub AreWritten : List ℕ → List ℕ → Kind → Rect → List ℕ → ℕ → ℕ → Type 0
+AreWritten old new kind rect from at stride = (i : ℕ) → cell_at new i ≡ buffer_to_image kind (cell_at from) at stride (texel_size kind) rect i (cell_at old i)

@@ -1,7 +1,8 @@
 // Nodes that write a rectangle of an image, on its bytes.
 ghost use Rattle.std.specs.Prelude.{◌≡◌, ◌+◌, ◌*◌, ◌≤◌, length};
-ghost use Rattle.cells.specs.Contents.{overwritten};
-ghost use Rattle.vk_objects.specs.Images.{kind_of_shape, rect_of, IsInside, HasAll, IsPainted, IsCleared};
+ghost use Rattle.cells.specs.Contents.{part, overwritten};
+ghost use Rattle.vk_model.specs.Cells.{texel_size};
+ghost use Rattle.vk_objects.specs.Images.{kind_of_shape, rect_of, IsInside, HasAll, IsPainted, IsCleared, HasRows, AreWritten};
 
 use crate::shapes::{Area, Shape};
 
@@ -34,5 +35,34 @@ pub(crate) fn clear(bytes: &mut [u8], shape: Shape, area: Area, texel: &[u8; 16]
     for k in 0..area.height {
         let at = shape.place(area.left, area.top + k);
         paint(bytes, at, area.width, start);
+    }
+}
+
+/// Some bytes from a place on.
+fn row_of(from: &[u8], at: usize, len: usize) -> &[u8]
+    requires { at + len ≤ length from.now }
+    ensures { result.now ≡ part from.now at len }
+{
+    &from[at..at + len]
+}
+
+/// Writes rows to an area: row k is that from `at + k * stride` on.
+pub(crate) fn write_rows(
+    bytes: &mut [u8],
+    shape: Shape,
+    area: Area,
+    from: &[u8],
+    at: usize,
+    stride: usize,
+)
+    requires inside { IsInside area shape }
+    requires whole { HasAll shape (length bytes.old) }
+    requires rows { HasRows (length from.now) at stride area.height (area.width * texel_size (kind_of_shape shape)) }
+    ensures { AreWritten bytes.old bytes.new (kind_of_shape shape) (rect_of area) from.now at stride }
+{
+    let len = area.width * shape.texel();
+    for k in 0..area.height {
+        let row = row_of(from, at + k * stride, len);
+        put(bytes, shape.place(area.left, area.top + k), row);
     }
 }
