@@ -1,13 +1,19 @@
 -- Rows of an image that are written to a buffer one after another.
-use Rattle.std.proofs.Common.{◌≡◌, ℕ, zero, suc, ◌+◌, ◌-◌, ◌*◌, ◌/◌, ◌%◌, ◌<◌, ◌≤◌, List, Bool, true, false, cond, refl, sym, ◌∙◌, ap, subst, arith, inl, inr, add-one}
+use Rattle.std.proofs.Common.{◌≡◌, ℕ, zero, suc, ◌+◌, ◌-◌, ◌*◌, ◌/◌, ◌%◌, ◌<◌, ◌≤◌, List, length, Bool, true, false, cond, refl, sym, ◌∙◌, ap, subst, arith, inl, inr, add-one}
 use Rattle.std.specs.Prelude.{◌⊎◌, ◌&&◌, nat_eq, nat_le, nat_lt, min}
 use Rattle.std.proofs.Math.Nat.{mul-le-mul_right}
 use Rattle.std.proofs.lemmas.Bool.{cases_Bool, and_from, and_left, and_right, ltb-true, ltb-false, leb-true, leb-false, eqb-true, eqb-false, le-leb, lt-ltb, lt-leb, le-ltb, cond-true, cond-false}
 use Rattle.std.proofs.lemmas.Nat.{le-div, div_below}
 use Rattle.vk_types.specs.declared.handles.Kind.{Kind}
 use Rattle.vk_types.specs.declared.regions.Rect.{Rect}
-use Rattle.cells.specs.Contents.{cell_at}
-use Rattle.vk_model.specs.Cells.{ahead, last_row, texel_to_buffer, image_to_buffer}
+use Rattle.cells.specs.Contents.{cell_at, part, overwritten}
+use Rattle.vk_model.specs.Cells.{last_row, image_to_buffer, place, texel_size}
+use Rattle.vk_objects.specs.declared.shapes.Shape.{Shape}
+use Rattle.vk_objects.specs.declared.shapes.Area.{Area}
+use Rattle.vk_objects.specs.Images.{kind_of_shape, rect_of, IsInside, HasAll}
+use Rattle.vk_objects.proofs.Parts.{overwritten-before, overwritten-inside, overwritten-after, length-part, part-at}
+use Rattle.vk_objects.proofs.RowSteps.{in_row}
+use Rattle.vk_objects.proofs.ImageNodes.{row_fits}
 use Rattle.vk_objects.specs.Rows.{after_rows, row_byte, HasOutRows, HasRow}
 
 module _ (g : ℕ → ℕ → ℕ) (len stride : ℕ) where
@@ -113,3 +119,23 @@ all_out_rows kind image rect stride size expand a old some =
     ap (λ h. after_rows g (rect.w * size) stride h a old) (sym is)
     ∙ rows_are_last g (rect.w * size) stride n a old
     ∙ ap (λ h. from_row g (rect.w * size) stride a old (last_row h stride a)) is
+
+-- a row that is put in its place
+pub row_put : (now : List ℕ) (at : ℕ) (row : List ℕ) (len : ℕ) (g : ℕ → ℕ) → length row ≡ len → at + len ≤ length now → ((j : ℕ) → j < len → cell_at row j ≡ g j) → HasRow now (overwritten now at row) at len g
+row_put now at row len g is fits same = record {
+  inside = λ j lt. overwritten-inside now at row fits' j (omega (arith, is, lt)) ∙ same j lt;
+  before = λ i lt. overwritten-before now at row fits' i lt;
+  after = λ j. overwritten-after now at row fits' (at + len + j) (omega (arith, is));
+}
+  where
+    fits' : at + length row ≤ length now
+    fits' = omega (arith, is, fits)
+
+module _ (s : Shape) (a : Area) (inside : IsInside a s) (some : 0 < texel_size (kind_of_shape s)) where
+  pub plain_row : (k : ℕ) (image now : List ℕ) (at : ℕ) → k < a.height → HasAll s (length image) → at + a.width * texel_size (kind_of_shape s) ≤ length now
+      → HasRow now (overwritten now at (part image (place (kind_of_shape s) a.left (a.top + k) 0) (a.width * texel_size (kind_of_shape s)))) at (a.width * texel_size (kind_of_shape s)) (row_byte (kind_of_shape s) image (rect_of a) (texel_size (kind_of_shape s)) false k)
+  plain_row k image now at below all fits =
+      let kind = kind_of_shape s in let t = texel_size kind in let start = place kind a.left (a.top + k) 0 in
+      row_put now at (part image start (a.width * t)) (a.width * t) (row_byte kind image (rect_of a) t false k)
+      (length-part image start (a.width * t) (row_fits s a inside some k (length image) below all)) fits
+      (λ j lt. part-at image start (a.width * t) j lt ∙ ap (cell_at image) (in_row kind (rect_of a) a.left a.top refl refl some inside.columns (λ x y b. 0) k j))

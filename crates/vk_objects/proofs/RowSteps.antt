@@ -27,7 +27,7 @@ place_of kind i =
 
 module _ (kind : Kind) (rect : Rect) (left top : ℕ) (x_is : rect.x ≡ pos left) (y_is : rect.y ≡ pos top) (some : 0 < texel_size kind) (right : left + rect.w ≤ width_of kind) (f : ℕ → ℕ → ℕ → ℕ) where
   -- a byte of the row that is written next
-  in_row : (k j : ℕ) → place kind left (top + k) 0 + j ≡ place kind (left + j / texel_size kind) (top + k) (j % texel_size kind)
+  pub in_row : (k j : ℕ) → place kind left (top + k) 0 + j ≡ place kind (left + j / texel_size kind) (top + k) (j % texel_size kind)
   in_row k j =
       let t = texel_size kind in let w = width_of kind in
       let whole : j / t * t + j % t ≡ j = div-add-mod' j t in

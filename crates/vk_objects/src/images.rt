@@ -7,7 +7,7 @@ ghost use Rattle.vk_objects.specs.Images.{kind_of_shape, rect_of, IsInside, HasA
 use crate::shapes::{Area, Shape};
 
 /// Puts bytes in the place of those that stand from `at` on.
-fn put(bytes: &mut [u8], at: usize, others: &[u8])
+pub(crate) fn put(bytes: &mut [u8], at: usize, others: &[u8])
     requires { at + length others.now ≤ length bytes.old }
     ensures { bytes.new ≡ overwritten bytes.old at others.now }
 {
@@ -39,7 +39,7 @@ pub(crate) fn clear(bytes: &mut [u8], shape: Shape, area: Area, texel: &[u8; 16]
 }
 
 /// Some bytes from a place on.
-fn row_of(from: &[u8], at: usize, len: usize) -> &[u8]
+pub(crate) fn row_of(from: &[u8], at: usize, len: usize) -> &[u8]
     requires { at + len ≤ length from.now }
     ensures { result.now ≡ part from.now at len }
 {

@@ -4,6 +4,7 @@
 mod buffers;
 mod images;
 mod objects;
+mod out_rows;
 mod shapes;
 
 pub use objects::Objects;
