@@ -5,3 +5,4 @@ pub mod RowSteps
 pub mod Paints
 pub mod ImageNodes
 pub mod OutRows
+pub mod Fits

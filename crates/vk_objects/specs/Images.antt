@@ -1,10 +1,10 @@
 -- Shapes of images, and rectangles inside them.
-use Rattle.std.specs.Prelude.{◌≡◌, ℕ, ◌+◌, ◌*◌, ◌%◌, ◌<◌, ◌≤◌, ◌⊎◌, List, length, pos}
+use Rattle.std.specs.Prelude.{◌≡◌, ℕ, ◌+◌, ◌*◌, ◌%◌, ◌<◌, ◌≤◌, ◌⊎◌, List, length, ℤ, pos}
 use Rattle.vk_types.specs.declared.handles.Kind.{Kind}
 use Rattle.vk_types.specs.declared.handles.Kind.TheVariants.{Image}
 use Rattle.vk_types.specs.declared.regions.Rect.{Rect}
 use Rattle.cells.specs.Contents.{cell_at}
-use Rattle.vk_model.specs.Cells.{texel_size, clear_image, buffer_to_image}
+use Rattle.vk_model.specs.Cells.{texel_size, clear_image, buffer_to_image, copy_image}
 use Rattle.vk_model.specs.Fitting.{size_of}
 use Rattle.vk_objects.specs.declared.shapes.Shape.{Shape}
 use Rattle.vk_objects.specs.declared.shapes.Area.{Area}
@@ -40,3 +40,7 @@ HasRows len at stride count size = (k : ℕ) → k < count → at + k * stride +
 -- each place is as the rows leave it
 abbrev pub AreWritten : List ℕ → List ℕ → Kind → Rect → List ℕ → ℕ → ℕ → Type 0
 AreWritten old new kind rect from at stride = (i : ℕ) → cell_at new i ≡ buffer_to_image kind (cell_at from) at stride (texel_size kind) rect i (cell_at old i)
+
+-- each place is as a copy between two images leaves it
+abbrev pub AreCopied : List ℕ → List ℕ → Kind → Kind → List ℕ → ℤ → ℤ → Rect → Type 0
+AreCopied old new source kind image x y rect = (i : ℕ) → cell_at new i ≡ copy_image source kind (cell_at image) x y rect i (cell_at old i)

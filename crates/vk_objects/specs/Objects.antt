@@ -1,5 +1,5 @@
 -- Live objects by their numbers, each with its kind and its bytes.
-use Rattle.std.specs.Prelude.{◌≡◌, ◌≢◌, ℕ, ◌*◌, ◌≤◌, ◌<◌, List, [], length, Option, Some, None, option_map, replicate, unwrap_or}
+use Rattle.std.specs.Prelude.{◌≡◌, ◌≢◌, ℕ, ◌*◌, ◌≤◌, ◌<◌, ◌^◌, List, [], length, Option, Some, None, option_map, replicate, unwrap_or}
 use Rattle.std.specs.BTreeMap.{get}
 use Rattle.std.specs.Ordering.{nat_cmp}
 use Rattle.vk_types.specs.declared.handles.Kind.{Kind}
@@ -41,6 +41,12 @@ pub record SetsBytes (old new : Objects) (id : ℕ) (bytes : List ℕ) : Type 0 
   pub here : bytes_of new id ≡ bytes
   pub kind : kind_of new id ≡ kind_of old id
   pub others : (other : ℕ) → other ≢ id → object_at new other ≡ object_at old other
+
+-- only this object has other bytes, as many as before
+pub record Rewrites (old new : Objects) (id : ℕ) : Type 0 where
+  pub sets : SetsBytes old new id (bytes_of new id)
+  pub size : length (bytes_of new id) ≡ length (bytes_of old id)
+  pub small : length (bytes_of new id) < 2 ^ 64
 
 -- nothing changed
 abbrev pub IsUnchanged : Objects → Objects → Type 0

@@ -2,6 +2,7 @@
 #![tactic(auto)]
 
 mod buffers;
+mod image_nodes;
 mod images;
 mod objects;
 mod out_rows;

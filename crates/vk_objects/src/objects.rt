@@ -1,11 +1,13 @@
 // Live objects by their numbers.
 ghost use Rattle.std.specs.Prelude.{◌≡◌, ℕ, [], None, Some, IsSome, OnOk, OnErr, option_map, replicate};
-ghost use Rattle.std.specs.Prelude.{◌<◌};
+ghost use Rattle.std.specs.Prelude.{◌<◌, ◌^◌, length};
 ghost use Rattle.vk_model.specs.Texels.{texel_bytes};
-ghost use Rattle.vk_model.specs.Fitting.{size_of, IsKind};
+ghost use Rattle.vk_model.specs.Fitting.{size_of, IsKind, IsImage};
 ghost use Rattle.std.specs.Option.{option_copied};
-ghost use Rattle.vk_objects.specs.Objects.{object_at, kind_of, bytes_of, new_object, IsUnchanged, SetsBytes, SetsObject};
+ghost use Rattle.vk_objects.specs.Images.{kind_of_shape};
+ghost use Rattle.vk_objects.specs.Objects.{object_at, kind_of, bytes_of, new_object, HasSize, IsUnchanged, SetsBytes, SetsObject};
 
+use crate::shapes::Shape;
 use cells::Bytes;
 use std::alloc::{AllocError, Global};
 use std::collections::BTreeMap;
@@ -87,6 +89,28 @@ impl Objects {
         }
     }
 
+    /// The shape of a live image.
+    pub(crate) fn shape(&self, id: HandleId) -> Shape
+        requires image { IsImage (kind_of self.now id.0) }
+        requires sized { HasSize (kind_of self.now id.0) (bytes_of self.now id.0) }
+        ensures { kind_of self.now id.0 ≡ Some (kind_of_shape result) }
+    {
+        match self.kind(id) {
+            Some(
+                Kind::Image {
+                    format,
+                    width,
+                    height,
+                },
+            ) => Shape {
+                format,
+                width,
+                height,
+            },
+            Some(Kind::Buffer { .. }) | None => unreachable!(),
+        }
+    }
+
     /// The bytes of a live object.
     pub fn bytes(&self, id: HandleId) -> Option<&[u8]>
         ensures { option_copied result ≡ option_map (λ o. o.bytes) (object_at self.now id.0) }
@@ -102,12 +126,15 @@ impl Objects {
         requires { IsSome (kind_of self.old id.0) }
         ensures bytes { result ≡ bytes_of self.old id.0 }
         ensures taken { SetsBytes self.old self.new id.0 [] }
+        ensures small { length result < 2 ^ 64 }
     {
         let empty = Bytes::of(Vec::new(self.alloc));
-        match self.map.get_mut(&id.0) {
+        let bytes = match self.map.get_mut(&id.0) {
             Some(object) => mem::replace(&mut object.bytes, empty),
             None => unreachable!(),
-        }
+        };
+        let _len = bytes.len();
+        bytes
     }
 
     /// Gives a live object its bytes.

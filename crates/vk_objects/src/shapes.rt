@@ -1,6 +1,8 @@
 // The shapes of images, and areas in them.
 ghost use Rattle.std.specs.Prelude.{◌≡◌, ◌<◌, ◌≤◌};
 
+use vk_types::Rect;
+
 /// The shape of an image: its format, and how many columns and rows it has.
 #[derive(Clone, Copy, Debug)]
 pub(crate) struct Shape {
@@ -39,9 +41,29 @@ impl Shape {
     /// Where a texel begins.
     pub(crate) fn place(self, column: usize, row: usize) -> usize
         requires column { column ≤ self.width }
-        requires row { row < self.height }
+        requires row { row ≤ self.height }
         ensures { result ≡ place (kind_of_shape self) column row 0 }
     {
         (row * self.width as usize + column) * self.texel()
+    }
+}
+
+impl Area {
+    ghost use Rattle.vk_types.specs.declared.regions.Rect.{Rect};
+    ghost use Rattle.vk_model.specs.Fitting.{LiesInside};
+    ghost use Rattle.vk_objects.specs.Images.{rect_of, IsInside};
+
+    /// A rectangle that lies inside an image.
+    pub(crate) fn of(rect: Rect, shape: Shape) -> Area
+        requires { LiesInside rect shape.width shape.height }
+        ensures rect { rect_of result ≡ rect }
+        ensures inside { IsInside result shape }
+    {
+        Area {
+            left: rect.x as usize,
+            top: rect.y as usize,
+            width: rect.w as usize,
+            height: rect.h as usize,
+        }
     }
 }

@@ -1,0 +1,54 @@
+// Nodes on images.
+ghost use Rattle.std.specs.Prelude.{◌≡◌, ◌≢◌, ◌*◌, false};
+ghost use Rattle.vk_model.specs.Cells.{texel_size};
+ghost use Rattle.vk_model.specs.Fitting.{HasRect, HasRange, HasTexels, format_in};
+ghost use Rattle.vk_types.specs.Touches.{rows_size};
+ghost use Rattle.vk_objects.specs.Images.{IsCleared, AreWritten, AreCopied};
+ghost use Rattle.vk_objects.specs.Rows.{row_byte, HasOutRows};
+ghost use Rattle.vk_objects.specs.Objects.{kind_of, bytes_of, kinds_of, HasSize, SetsBytes, Rewrites};
+
+use crate::Objects;
+use crate::images::{clear, write_rows};
+use crate::out_rows::read_rows;
+use crate::shapes::Area;
+use vk_types::{HandleId, Rect};
+
+/// Clears a rectangle of an image.
+fn put_clear(objects: &mut Objects, image: HandleId, rect: Rect, texel: &[u8; 16])
+    requires rect { HasRect (kind_of objects.old image.0) rect }
+    requires sized { HasSize (kind_of objects.old image.0) (bytes_of objects.old image.0) }
+    ensures rewrites { Rewrites objects.old objects.new image.0 }
+    ensures cleared { IsCleared (bytes_of objects.old image.0) (bytes_of objects.new image.0) (kinds_of objects.old image.0) rect texel.now }
+{
+    let shape = objects.shape(image);
+    let area = Area::of(rect, shape);
+    let mut bytes = objects.take(image);
+    clear(bytes.as_mut_slice(), shape, area, texel);
+    objects.put_back(image, bytes);
+}
+
+/// Copies rows of a buffer to a rectangle of an image.
+fn put_rows(
+    objects: &mut Objects,
+    src: HandleId,
+    src_at: usize,
+    stride: usize,
+    dst: HandleId,
+    rect: Rect,
+)
+    requires src { HasRange (kind_of objects.old src.0) src_at (rows_size rect stride (texel_size (kinds_of objects.old dst.0))) }
+    requires src_sized { HasSize (kind_of objects.old src.0) (bytes_of objects.old src.0) }
+    requires rect { HasRect (kind_of objects.old dst.0) rect }
+    requires sized { HasSize (kind_of objects.old dst.0) (bytes_of objects.old dst.0) }
+    ensures rewrites { Rewrites objects.old objects.new dst.0 }
+    ensures written { AreWritten (bytes_of objects.old dst.0) (bytes_of objects.new dst.0) (kinds_of objects.old dst.0) rect (bytes_of objects.old src.0) src_at stride }
+{
+    let shape = objects.shape(dst);
+    let area = Area::of(rect, shape);
+    let mut bytes = objects.take(dst);
+    match objects.bytes(src) {
+        Some(from) => write_rows(bytes.as_mut_slice(), shape, area, from, src_at, stride),
+        None => unreachable!(),
+    }
+    objects.put_back(dst, bytes);
+}
