@@ -1,6 +1,6 @@
 -- Areas of images that are written row by row.
 use Rattle.std.proofs.Common.{◌≡◌, ℕ, ◌+◌, ◌*◌, ◌/◌, ◌%◌, ◌<◌, ◌≤◌, List, length, take, refl, sym, ◌∙◌, ap, subst, arith}
-use Rattle.std.specs.Prelude.{slice_index, ◌⊎◌}
+use Rattle.std.specs.Prelude.{slice_index, ◌⊎◌, Option, Some, None, pos}
 use Rattle.std.proofs.Math.Nat.{mul-le-mul_right}
 use Rattle.std.proofs.lemmas.Nat.{mod_below, div-add-mod'}
 use Rattle.std.proofs.lemmas.List.{get_or-take}
@@ -8,7 +8,7 @@ use Rattle.std.proofs.lemmas.Grind.{get_or_default_zero}
 use Rattle.cells.specs.Contents.{UNDEFINED, cell_at, part, overwritten}
 use Rattle.vk_types.specs.declared.handles.Kind.{Kind}
 use Rattle.vk_types.specs.declared.regions.Rect.{Rect}
-use Rattle.vk_model.specs.Cells.{place, texel_size}
+use Rattle.vk_model.specs.Cells.{place, texel_size, width_of, column_at, row_at, byte_at, behind, at_both, buffer_to_image, copy_image}
 use Rattle.vk_objects.specs.declared.shapes.Shape.{Shape}
 use Rattle.vk_objects.specs.declared.shapes.Area.{Area}
 use Rattle.vk_objects.specs.Images.{kind_of_shape, rect_of, IsInside, HasAll, IsPainted, IsCleared, HasRows, AreWritten}
@@ -71,3 +71,30 @@ module _ (s : Shape) (a : Area) (inside : IsInside a s) (some : 0 < texel_size (
 -- the first bytes of a texel
 pub texel_start : (n : ℕ) (texel : List ℕ) → n ≤ length texel → (b : ℕ) → b < n → cell_at (take n texel) b ≡ slice_index texel b
 texel_start n texel enough b lt = get_or-take n texel b UNDEFINED lt ∙ get_or_default_zero texel b UNDEFINED (omega (arith, enough, lt))
+
+at_both_same : (a b : Option ℕ) (f g : ℕ → ℕ → ℕ) (old : ℕ) → ((x y : ℕ) → f x y ≡ g x y) → at_both a b f old ≡ at_both a b g old
+at_both_same None b f g old same = refl
+at_both_same (Some x) None f g old same = refl
+at_both_same (Some x) (Some y) f g old same = same x y
+
+-- rows of an image are its texels
+module _ (from kind : Kind) (x y : ℕ) where
+  row_texel : (k column byte w t : ℕ) → (y * w + x) * t + 0 + k * (w * t) + column * t + byte ≡ ((y + k) * w + (x + column)) * t + byte
+  row_texel k column byte w t = omega arith
+
+  pub rows_are_copied : (source : ℕ → ℕ) (rect : Rect) (i old : ℕ) → texel_size from ≡ texel_size kind
+      → buffer_to_image kind source (place from x y 0) (width_of from * texel_size from) (texel_size kind) rect i old ≡ copy_image from kind source (pos x) (pos y) rect i old
+  rows_are_copied source rect i old same =
+      at_both_same (behind rect.x rect.w (column_at kind i)) (behind rect.y rect.h (row_at kind i))
+      (λ column k. source (place from x y 0 + k * (width_of from * texel_size from) + column * texel_size kind + byte_at kind i))
+      (λ column k. source (place from (x + column) (y + k) (byte_at kind i)))
+      old
+      (λ column k. ap (λ t. source (place from x y 0 + k * (width_of from * texel_size from) + column * t + byte_at kind i)) (sym same) ∙ ap source (row_texel k column (byte_at kind i) (width_of from) (texel_size from)))
+
+module _ (s : Shape) (a : Area) (inside : IsInside a s) (some : 0 < texel_size (kind_of_shape s)) where
+  pub source_rows : (len : ℕ) → HasAll s len → HasRows len (place (kind_of_shape s) a.left a.top 0) (s.width * texel_size (kind_of_shape s)) a.height (a.width * texel_size (kind_of_shape s))
+  source_rows len all k below =
+      let w = s.width in let t = texel_size (kind_of_shape s) in
+      let fits : place (kind_of_shape s) a.left (a.top + k) 0 + a.width * t ≤ len = row_fits s a inside some k len below all in
+      let same : (a.top * w + a.left) * t + 0 + k * (w * t) + a.width * t ≡ ((a.top + k) * w + a.left) * t + 0 + a.width * t = omega arith in
+      subst (λ n. n ≤ len) (sym same) fits

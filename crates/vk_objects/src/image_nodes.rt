@@ -52,3 +52,69 @@ fn put_rows(
     }
     objects.put_back(dst, bytes);
 }
+
+fn rectangle(x: i32, y: i32, w: u32, h: u32) -> Rect
+    ensures { result ≡ record { x = x; y = y; w = w; h = h } }
+{
+    Rect { x, y, w, h }
+}
+
+/// Copies texels between two images of one format.
+fn put_image(
+    objects: &mut Objects,
+    src: HandleId,
+    src_x: i32,
+    src_y: i32,
+    dst: HandleId,
+    rect: Rect,
+)
+    requires source { HasRect (kind_of objects.old src.0) (record { x = src_x; y = src_y; w = rect.w; h = rect.h }) }
+    requires src_sized { HasSize (kind_of objects.old src.0) (bytes_of objects.old src.0) }
+    requires rect { HasRect (kind_of objects.old dst.0) rect }
+    requires sized { HasSize (kind_of objects.old dst.0) (bytes_of objects.old dst.0) }
+    requires format { format_in (kind_of objects.old src.0) ≡ format_in (kind_of objects.old dst.0) }
+    requires apart { src.0 ≢ dst.0 }
+    ensures rewrites { Rewrites objects.old objects.new dst.0 }
+    ensures copied { AreCopied (bytes_of objects.old dst.0) (bytes_of objects.new dst.0) (kinds_of objects.old src.0) (kinds_of objects.old dst.0)
+        (bytes_of objects.old src.0) src_x src_y rect }
+{
+    let from = objects.shape(src);
+    let source = Area::of(rectangle(src_x, src_y, rect.w, rect.h), from);
+    let shape = objects.shape(dst);
+    let area = Area::of(rect, shape);
+    let mut bytes = objects.take(dst);
+    let at = from.place(source.left, source.top);
+    let stride = from.width as usize * from.texel();
+    match objects.bytes(src) {
+        Some(image) => write_rows(bytes.as_mut_slice(), shape, area, image, at, stride),
+        None => unreachable!(),
+    }
+    objects.put_back(dst, bytes);
+}
+
+/// Copies rows of an image to a buffer.
+fn put_out_rows(
+    objects: &mut Objects,
+    src: HandleId,
+    rect: Rect,
+    dst: HandleId,
+    dst_at: usize,
+    stride: usize,
+)
+    requires rect { HasRect (kind_of objects.old src.0) rect }
+    requires src_sized { HasSize (kind_of objects.old src.0) (bytes_of objects.old src.0) }
+    requires dst { HasRange (kind_of objects.old dst.0) dst_at (rows_size rect stride (texel_size (kinds_of objects.old src.0))) }
+    requires sized { HasSize (kind_of objects.old dst.0) (bytes_of objects.old dst.0) }
+    ensures rewrites { Rewrites objects.old objects.new dst.0 }
+    ensures rows { HasOutRows (bytes_of objects.old dst.0) (bytes_of objects.new dst.0) dst_at (rect.w * texel_size (kinds_of objects.old src.0)) stride rect.h
+        (row_byte (kinds_of objects.old src.0) (bytes_of objects.old src.0) rect (texel_size (kinds_of objects.old src.0)) false) }
+{
+    let shape = objects.shape(src);
+    let area = Area::of(rect, shape);
+    let mut bytes = objects.take(dst);
+    match objects.bytes(src) {
+        Some(image) => read_rows(bytes.as_mut_slice(), dst_at, stride, image, shape, area),
+        None => unreachable!(),
+    }
+    objects.put_back(dst, bytes);
+}
