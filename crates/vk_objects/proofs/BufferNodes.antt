@@ -7,12 +7,13 @@ use Rattle.vk_types.specs.declared.handles.HandleId.{HandleId}
 use Rattle.vk_types.specs.declared.ops.Op.TheVariants.{CopyBuffer, FillBuffer}
 use Rattle.vk_types.specs.declared.ops.Node.{Node}
 use Rattle.vk_types.specs.Touches.{the_end}
-use Rattle.cells.specs.Contents.{UNDEFINED, cell_at, part, overwritten}
+use Rattle.cells.specs.Contents.{UNDEFINED, AgreesAt, cell_at, part, overwritten}
+use Rattle.vk_model.specs.Cells.{op_cell}
 use Rattle.vk_model.specs.Log.{Command, Range}
 use Rattle.vk_model.specs.Meaning.{covers, is_written}
 use Rattle.vk_model.proofs.Copies.{covered_from}
 use Rattle.vk_objects.specs.declared.objects.Objects.{Objects}
-use Rattle.vk_objects.specs.Objects.{bytes_of, kinds_of, contents_of, SetsBytes, Executes}
+use Rattle.vk_objects.specs.Objects.{bytes_of, kinds_of, contents_of, SetsBytes, Rewrites, Executes}
 use Rattle.vk_objects.proofs.Parts.{overwritten-outside, overwritten-inside, length-overwritten, part-at, length-part}
 use Rattle.vk_objects.proofs.Executing.{Writes, executes}
 
@@ -107,3 +108,16 @@ module _ (old : Objects) (dst : HandleId) (dst_at size byte : ℕ) (end_inside :
 
   pub fill_executes : (new : Objects) → SetsBytes old new dst.0 (overwritten (bytes_of old dst.0) dst_at filling) → Executes old new fill_node
   fill_executes new sets = executes old new fill_node dst.0 (overwritten (bytes_of old dst.0) dst_at filling) sets fill_writes
+
+-- a node that writes a range of a buffer
+module _ (old new : Objects) (n : Node) (dst : HandleId) (at size : ℕ) (rewrites : Rewrites old new dst.0) (end_inside : at + size ≤ the_end) where
+  pub range_executes : ((other i : ℕ) → is_written (Command 0 n) other i ≡ (covers other i (range dst at size) || false))
+      → ((i : ℕ) → at ≤ i → i < at + size → AgreesAt (cell_at (bytes_of new dst.0) i) (op_cell (kinds_of old) n.op (contents_of old) dst.0 i))
+      → ((i : ℕ) → (i < at) ⊎ (at + size ≤ i) → cell_at (bytes_of new dst.0) i ≡ cell_at (bytes_of old dst.0) i)
+      → Executes old new n
+  range_executes in_this agrees stays = executes old new n dst.0 (bytes_of new dst.0) rewrites.sets (record {
+    only = λ other i ne. in_this other i ∙ others_unwritten dst at size end_inside other i ne;
+    inside = λ i w. let at' = in_range dst at size end_inside i (sym (in_this dst.0 i) ∙ w) in agrees i at'.0 at'.1;
+    outside = λ i u. stays i (out_of_range dst at size end_inside i (sym (in_this dst.0 i) ∙ u));
+    size = rewrites.size;
+  })

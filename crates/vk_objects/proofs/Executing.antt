@@ -1,15 +1,18 @@
 -- A node that sets the bytes of one object.
 use Rattle.std.proofs.Common.{◌≡◌, ◌≢◌, ℕ, ◌<◌, ◌≤◌, List, length, Bool, true, false, refl, sym, ◌∙◌, ap, subst, arith, inl, inr}
-use Rattle.std.specs.Prelude.{◌⊎◌, Option, Some, None, option_map, nat_eq}
-use Rattle.std.proofs.lemmas.Bool.{cases_Bool, eqb-true, eqb-false, both_ways}
+use Rattle.std.specs.Prelude.{◌⊎◌, ◌&&◌, ◌||◌, Option, Some, None, option_map, nat_eq, nat_le, nat_lt}
+use Rattle.std.proofs.lemmas.Bool.{cases_Bool, eqb-true, eqb-false, both_ways, or_from, or_left, and_left, ne_eqb, ltb-true, ltb-false}
+use Rattle.std.proofs.lemmas.List.{get_or_past}
 use Rattle.vk_types.specs.declared.ops.Node.{Node}
-use Rattle.cells.specs.Contents.{AgreesAt, cell_at}
+use Rattle.cells.specs.Contents.{UNDEFINED, AgreesAt, cell_at}
 use Rattle.vk_model.specs.Cells.{op_cell}
-use Rattle.vk_model.specs.Log.{Command}
-use Rattle.vk_model.specs.Meaning.{is_written}
+use Rattle.vk_model.specs.Log.{Command, Range}
+use Rattle.vk_model.specs.Meaning.{covers, is_written}
+use Rattle.vk_types.specs.Touches.{the_end}
+use Rattle.vk_model.proofs.Copies.{covered_from}
 use Rattle.vk_model.proofs.Executing.{node_executed}
 use Rattle.vk_objects.specs.declared.objects.Objects.{Objects}
-use Rattle.vk_objects.specs.Objects.{object_at, kind_of, bytes_in, bytes_of, kinds_of, contents_of, SetsBytes, Executes}
+use Rattle.vk_objects.specs.Objects.{object_at, kind_of, bytes_in, bytes_of, kinds_of, contents_of, SetsBytes, Rewrites, Executes}
 
 same_or_not : (a b : ℕ) → (a ≡ b) ⊎ (a ≢ b)
 same_or_not a b = go (cases_Bool (nat_eq a b))
@@ -53,3 +56,24 @@ module _ (old new : Objects) (n : Node) (id : ℕ) (bytes : List ℕ) (sets : Se
     kinds = λ other. kinds_all other (same_or_not other id);
     sizes = λ other. sizes_all other (same_or_not other id);
   }
+
+-- a node that writes a whole object
+abbrev whole_range : ℕ → Range
+whole_range id = record { id = id; start = 0; end = the_end; written = true }
+
+module _ (old new : Objects) (n : Node) (id : ℕ) (rewrites : Rewrites old new id) where
+  pub whole_executes : ((other i : ℕ) → is_written (Command 0 n) other i ≡ (covers other i (whole_range id) || false))
+      → ((i : ℕ) → AgreesAt (cell_at (bytes_of new id) i) (op_cell (kinds_of old) n.op (contents_of old) id i))
+      → Executes old new n
+  whole_executes whole agrees = executes old new n id (bytes_of new id) rewrites.sets (record {
+    only = λ other i ne. whole other i ∙ or_from (covers other i (whole_range id)) false (and_left (nat_eq id other && nat_le 0 i) (nat_lt i the_end) (and_left (nat_eq id other) (nat_le 0 i) (ne_eqb id other (λ e. ne (sym e))))) refl;
+    inside = λ i w. agrees i;
+    outside = λ i u. past i (cases_Bool (nat_lt i the_end)) (sym (whole id i) ∙ u);
+    size = rewrites.size;
+  })
+    where
+      past : (i : ℕ) → (nat_lt i the_end ≡ true) ⊎ (nat_lt i the_end ≡ false) → (covers id i (whole_range id) || false) ≡ false → cell_at (bytes_of new id) i ≡ cell_at (bytes_of old id) i
+      past i (inl below) u = absurd (both_ways (covers id i (whole_range id) || false) u (or_left (covers id i (whole_range id)) false (covered_from id i (whole_range id) refl (omega arith) (ltb-true i the_end below))))
+      past i (inr above) u =
+          let le : the_end ≤ i = ltb-false i the_end above in
+          get_or_past (bytes_of new id) i UNDEFINED (omega (arith, le, rewrites.small)) ∙ sym (get_or_past (bytes_of old id) i UNDEFINED (omega (arith, le, rewrites.small, rewrites.size)))

@@ -7,7 +7,8 @@ use Rattle.vk_types.specs.declared.handles.Kind.{Kind}
 use Rattle.vk_types.specs.declared.handles.Kind.TheVariants.{Buffer, Image}
 use Rattle.vk_types.specs.declared.regions.Rect.{Rect}
 use Rattle.vk_types.specs.Touches.{rows_size}
-use Rattle.vk_model.specs.Fitting.{HasRange, HasRect}
+use Rattle.vk_model.specs.Cells.{texel_size}
+use Rattle.vk_model.specs.Fitting.{HasRange, HasRect, HasTexels}
 use Rattle.vk_objects.specs.declared.objects.Object.{Object}
 use Rattle.vk_objects.specs.Objects.{bytes_in, HasSize}
 
@@ -33,7 +34,7 @@ bytes_found (Some x) bytes e = ap (λ o. unwrap_or o bytes) e
 
 -- rows that are not empty lie in their range, each of them
 module _ (rect : Rect) (stride size : ℕ) (some : 0 < rows_size rect stride size) where
-  filled : rows_size rect stride size ≡ (rect.h - 1) * stride + rect.w * size
+  pub filled : rows_size rect stride size ≡ (rect.h - 1) * stride + rect.w * size
   filled = go (cases_Bool ((rect.w == 0) || (rect.h == 0)))
     where
       go : (((rect.w == 0) || (rect.h == 0)) ≡ true) ⊎ (((rect.w == 0) || (rect.h == 0)) ≡ false) → rows_size rect stride size ≡ (rect.h - 1) * stride + rect.w * size
@@ -51,3 +52,9 @@ module _ (rect : Rect) (stride size : ℕ) (some : 0 < rows_size rect stride siz
   row_in_rows k below =
       let lower : k * stride ≤ (rect.h - 1) * stride = mul-le-mul_right stride (omega (arith, below)) in
       omega (arith, lower, filled)
+
+-- the size of an image's texels
+pub texels_are : (kind : Option Kind) (size : ℕ) → HasTexels kind size → size ≡ texel_size (unwrap_or kind (Buffer 0))
+texels_are None size is = absurd is
+texels_are (Some (Buffer _)) size is = absurd is
+texels_are (Some (Image format width height)) size is = is

@@ -33,6 +33,11 @@ module _ (g : ℕ → ℕ → ℕ) (len stride : ℕ) where
       let lower : n * stride ≤ m * stride = mul-le-mul_right stride (omega (arith, le)) in
       past_last n a old (omega (arith, lower, past)) ∙ past_all n m a old (omega (arith, le)) past
 
+  pub past_rows : (n a old : ℕ) → 0 < n → (n - 1) * stride + len ≤ a → after_rows g len stride n a old ≡ old
+  past_rows n a old some past =
+      let is : suc (n - 1) ≡ n = omega (arith, some) in
+      ap (λ m. after_rows g len stride m a old) (sym is) ∙ past_last (n - 1) a old past ∙ past_all (n - 1) (n - 1) a old (omega arith) past
+
   -- what the last row at or before a place leaves there
   abbrev pub from_row : ℕ → ℕ → ℕ → ℕ
   from_row a old r = cond (nat_lt (a - r * stride) len) (g r (a - r * stride)) old

@@ -1,11 +1,12 @@
 // Nodes on images.
 ghost use Rattle.std.specs.Prelude.{◌≡◌, ◌≢◌, ◌*◌, false};
 ghost use Rattle.vk_model.specs.Cells.{texel_size};
-ghost use Rattle.vk_model.specs.Fitting.{HasRect, HasRange, HasTexels, format_in};
+ghost use Rattle.vk_model.specs.Fitting.{HasRect, HasRange, OpFits, format_in};
+ghost use Rattle.vk_types.specs.declared.ops.Op.TheVariants.{ClearImage, CopyImage, BufferToImage, ImageToBuffer};
 ghost use Rattle.vk_types.specs.Touches.{rows_size};
 ghost use Rattle.vk_objects.specs.Images.{IsCleared, AreWritten, AreCopied};
 ghost use Rattle.vk_objects.specs.Rows.{row_byte, HasOutRows};
-ghost use Rattle.vk_objects.specs.Objects.{kind_of, bytes_of, kinds_of, HasSize, SetsBytes, Rewrites};
+ghost use Rattle.vk_objects.specs.Objects.{kind_of, bytes_of, kinds_of, HasSize, HaveSizes, Rewrites, Executes};
 
 use crate::Objects;
 use crate::images::{clear, write_rows};
@@ -117,4 +118,63 @@ fn put_out_rows(
         None => unreachable!(),
     }
     objects.put_back(dst, bytes);
+}
+
+/// Writes a texel to a rectangle of an image.
+pub(crate) fn clear_image(objects: &mut Objects, image: HandleId, rect: Rect, texel: &[u8; 16])
+    requires fits { OpFits (kind_of objects.old) (ClearImage image rect texel.now) }
+    requires sized { HaveSizes objects.old }
+    ensures { Executes objects.old objects.new (record { op = ClearImage image rect texel.now }) }
+{
+    put_clear(objects, image, rect, texel);
+}
+
+/// Copies texels between two images.
+pub(crate) fn copy_image(
+    objects: &mut Objects,
+    src: HandleId,
+    src_x: i32,
+    src_y: i32,
+    dst: HandleId,
+    rect: Rect,
+)
+    requires fits { OpFits (kind_of objects.old) (CopyImage src src_x src_y dst rect) }
+    requires sized { HaveSizes objects.old }
+    ensures { Executes objects.old objects.new (record { op = CopyImage src src_x src_y dst rect }) }
+{
+    put_image(objects, src, src_x, src_y, dst, rect);
+}
+
+/// Copies rows of a buffer to a rectangle of an image.
+pub(crate) fn buffer_to_image(
+    objects: &mut Objects,
+    src: HandleId,
+    src_at: u64,
+    stride: u64,
+    texel_size: u32,
+    dst: HandleId,
+    rect: Rect,
+)
+    requires fits { OpFits (kind_of objects.old) (BufferToImage src src_at stride texel_size dst rect) }
+    requires sized { HaveSizes objects.old }
+    ensures { Executes objects.old objects.new (record { op = BufferToImage src src_at stride texel_size dst rect }) }
+{
+    put_rows(objects, src, src_at as usize, stride as usize, dst, rect);
+}
+
+/// Copies rows of an image to a buffer, each texel as it is.
+pub(crate) fn image_to_buffer(
+    objects: &mut Objects,
+    src: HandleId,
+    rect: Rect,
+    dst: HandleId,
+    dst_at: u64,
+    stride: u64,
+    texel_size: u32,
+)
+    requires fits { OpFits (kind_of objects.old) (ImageToBuffer src rect dst dst_at stride texel_size false) }
+    requires sized { HaveSizes objects.old }
+    ensures { Executes objects.old objects.new (record { op = ImageToBuffer src rect dst dst_at stride texel_size false }) }
+{
+    put_out_rows(objects, src, rect, dst, dst_at as usize, stride as usize);
 }
