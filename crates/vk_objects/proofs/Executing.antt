@@ -77,3 +77,11 @@ module _ (old new : Objects) (n : Node) (id : ℕ) (rewrites : Rewrites old new 
       past i (inr above) u =
           let le : the_end ≤ i = ltb-false i the_end above in
           get_or_past (bytes_of new id) i UNDEFINED (omega (arith, le, rewrites.small)) ∙ sym (get_or_past (bytes_of old id) i UNDEFINED (omega (arith, le, rewrites.small, rewrites.size)))
+
+-- a node that leaves all bytes as they are
+pub unchanged_executes : (old : Objects) (n : Node) → ((id i : ℕ) → AgreesAt (contents_of old id i) (op_cell (kinds_of old) n.op (contents_of old) id i)) → Executes old old n
+unchanged_executes old n agrees = record {
+  agree = node_executed (kinds_of old) 0 n (contents_of old) (contents_of old) (λ id i w. agrees id i) (λ id i u. refl);
+  kinds = λ id. refl;
+  sizes = λ id. refl;
+}

@@ -6,3 +6,4 @@ pub mod Paints
 pub mod ImageNodes
 pub mod OutRows
 pub mod Fits
+pub mod PassSteps

@@ -1,11 +1,13 @@
 -- Shapes of images, and rectangles inside them.
-use Rattle.std.specs.Prelude.{◌≡◌, ℕ, ◌+◌, ◌*◌, ◌%◌, ◌<◌, ◌≤◌, ◌⊎◌, List, length, ℤ, pos}
+use Rattle.std.specs.Prelude.{◌≡◌, ℕ, ◌+◌, ◌*◌, ◌%◌, ◌<◌, ◌≤◌, ◌⊎◌, List, All, length, ℤ, pos}
 use Rattle.vk_types.specs.declared.handles.Kind.{Kind}
 use Rattle.vk_types.specs.declared.handles.Kind.TheVariants.{Image}
 use Rattle.vk_types.specs.declared.regions.Rect.{Rect}
-use Rattle.cells.specs.Contents.{cell_at}
-use Rattle.vk_model.specs.Cells.{texel_size, clear_image, buffer_to_image, copy_image}
-use Rattle.vk_model.specs.Fitting.{size_of}
+use Rattle.vk_types.specs.declared.regions.Clear.{Clear}
+use Rattle.vk_types.specs.declared.ops.Load.{Load}
+use Rattle.cells.specs.Contents.{AgreesAt, cell_at}
+use Rattle.vk_model.specs.Cells.{texel_size, clear_image, buffer_to_image, copy_image, cleared, loaded}
+use Rattle.vk_model.specs.Fitting.{size_of, LiesInside}
 use Rattle.vk_objects.specs.declared.shapes.Shape.{Shape}
 use Rattle.vk_objects.specs.declared.shapes.Area.{Area}
 
@@ -14,6 +16,9 @@ kind_of_shape s = Image s.format s.width s.height
 
 abbrev pub rect_of : Area → Rect
 rect_of a = record { x = pos a.left; y = pos a.top; w = a.width; h = a.height }
+
+abbrev pub whole_rect : Shape → Rect
+whole_rect s = record { x = pos 0; y = pos 0; w = s.width; h = s.height }
 
 -- the area lies inside the image
 pub record IsInside (a : Area) (s : Shape) : Type 0 where
@@ -44,3 +49,19 @@ AreWritten old new kind rect from at stride = (i : ℕ) → cell_at new i ≡ bu
 -- each place is as a copy between two images leaves it
 abbrev pub AreCopied : List ℕ → List ℕ → Kind → Kind → List ℕ → ℤ → ℤ → Rect → Type 0
 AreCopied old new source kind image x y rect = (i : ℕ) → cell_at new i ≡ copy_image source kind (cell_at image) x y rect i (cell_at old i)
+
+-- the clears lie inside the image
+abbrev pub FitTheImage : Shape → List Clear → Type 0
+FitTheImage s clears = All (λ clear. LiesInside clear.rect s.width s.height) clears
+
+-- each place is as the clears in order leave it
+abbrev pub AreClearedBy : List ℕ → List ℕ → Kind → List Clear → Type 0
+AreClearedBy old new kind clears = (i : ℕ) → cell_at new i ≡ cleared kind clears i (cell_at old i)
+
+-- each place is as the load leaves it, where it is defined
+abbrev pub IsLoadedBy : List ℕ → List ℕ → Kind → Load → Type 0
+IsLoadedBy old new kind load' = (i : ℕ) → AgreesAt (cell_at new i) (loaded kind load' i (cell_at old i))
+
+-- each place is as the load and then the clears leave it, where it is defined
+abbrev pub IsPassed : List ℕ → List ℕ → Kind → Load → List Clear → Type 0
+IsPassed old new kind load' clears = (i : ℕ) → AgreesAt (cell_at new i) (cleared kind clears i (loaded kind load' i (cell_at old i)))

@@ -6,6 +6,7 @@ mod image_nodes;
 mod images;
 mod objects;
 mod out_rows;
+mod passes;
 mod shapes;
 
 pub use objects::Objects;

@@ -51,7 +51,7 @@ impl Shape {
 impl Area {
     ghost use Rattle.vk_types.specs.declared.regions.Rect.{Rect};
     ghost use Rattle.vk_model.specs.Fitting.{LiesInside};
-    ghost use Rattle.vk_objects.specs.Images.{rect_of, IsInside};
+    ghost use Rattle.vk_objects.specs.Images.{rect_of, whole_rect, IsInside};
 
     /// A rectangle that lies inside an image.
     pub(crate) fn of(rect: Rect, shape: Shape) -> Area
@@ -64,6 +64,19 @@ impl Area {
             top: rect.y as usize,
             width: rect.w as usize,
             height: rect.h as usize,
+        }
+    }
+
+    /// The whole image.
+    pub(crate) fn all(shape: Shape) -> Area
+        ensures rect { rect_of result ≡ whole_rect shape }
+        ensures inside { IsInside result shape }
+    {
+        Area {
+            left: 0,
+            top: 0,
+            width: shape.width as usize,
+            height: shape.height as usize,
         }
     }
 }
