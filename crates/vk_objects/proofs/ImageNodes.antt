@@ -98,3 +98,12 @@ module _ (s : Shape) (a : Area) (inside : IsInside a s) (some : 0 < texel_size (
       let fits : place (kind_of_shape s) a.left (a.top + k) 0 + a.width * t ≤ len = row_fits s a inside some k len below all in
       let same : (a.top * w + a.left) * t + 0 + k * (w * t) + a.width * t ≡ ((a.top + k) * w + a.left) * t + 0 + a.width * t = omega arith in
       subst (λ n. n ≤ len) (sym same) fits
+
+-- a texel lies in the image's bytes
+pub texel_fits : (s : Shape) (column row len : ℕ) → 0 < texel_size (kind_of_shape s) → column < s.width → row < s.height → HasAll s len → place (kind_of_shape s) column row 0 + texel_size (kind_of_shape s) ≤ len
+texel_fits s column row len some inside below all =
+    let one : Area = record { left = column; top = row; width = 1; height = 1 } in
+    let t = texel_size (kind_of_shape s) in
+    let fits : place (kind_of_shape s) column (row + 0) 0 + 1 * t ≤ len = row_fits s one (record { columns = omega (arith, inside); rows = omega (arith, below) }) some 0 len (omega arith) all in
+    let same : place (kind_of_shape s) column (row + 0) 0 + 1 * t ≡ place (kind_of_shape s) column row 0 + t = omega arith in
+    subst (λ n. n ≤ len) same fits

@@ -7,3 +7,4 @@ pub mod ImageNodes
 pub mod OutRows
 pub mod Fits
 pub mod PassSteps
+pub mod Expanding

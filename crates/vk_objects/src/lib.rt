@@ -8,5 +8,6 @@ mod objects;
 mod out_rows;
 mod passes;
 mod shapes;
+mod texels;
 
 pub use objects::Objects;
