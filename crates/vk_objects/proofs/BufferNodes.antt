@@ -1,7 +1,7 @@
 -- Nodes on buffers.
-use Rattle.std.proofs.Common.{◌≡◌, ◌≢◌, ℕ, ◌+◌, ◌-◌, ◌<◌, ◌≤◌, List, length, replicate, Bool, true, false, refl, sym, ◌∙◌, ap, subst, arith, inl, inr}
+use Rattle.std.proofs.Common.{◌≡◌, ◌≢◌, ℕ, ◌+◌, ◌-◌, ◌<◌, ◌≤◌, List, length, replicate, true, false, refl, sym, ◌∙◌, ap, arith, inl, inr}
 use Rattle.std.specs.Prelude.{◌⊎◌, ◌&&◌, ◌||◌, nat_eq, nat_lt, nat_le, min}
-use Rattle.std.proofs.lemmas.Bool.{cases_Bool, and_parts, and_left, ne_eqb, eqb-true, leb-true, ltb-true, or_cases, or_from, or_left, both_ways, false≢true, ltb-false, leb-false}
+use Rattle.std.proofs.lemmas.Bool.{cases_Bool, and_parts, and_left, ne_eqb, leb-true, ltb-true, or_cases, or_from, or_left, both_ways, false≢true, ltb-false, leb-false}
 use Rattle.std.proofs.lemmas.List.{get_or-replicate, length-replicate}
 use Rattle.vk_types.specs.declared.handles.HandleId.{HandleId}
 use Rattle.vk_types.specs.declared.ops.Op.TheVariants.{CopyBuffer, FillBuffer}

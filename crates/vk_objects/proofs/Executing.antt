@@ -1,6 +1,6 @@
 -- A node that sets the bytes of one object.
-use Rattle.std.proofs.Common.{◌≡◌, ◌≢◌, ℕ, ◌<◌, ◌≤◌, List, length, Bool, true, false, refl, sym, ◌∙◌, ap, subst, arith, inl, inr}
-use Rattle.std.specs.Prelude.{◌⊎◌, ◌&&◌, ◌||◌, Option, Some, None, option_map, nat_eq, nat_le, nat_lt}
+use Rattle.std.proofs.Common.{◌≡◌, ◌≢◌, ℕ, ◌≤◌, List, length, true, false, refl, sym, ◌∙◌, ap, subst, arith, inl, inr}
+use Rattle.std.specs.Prelude.{◌⊎◌, ◌&&◌, ◌||◌, option_map, nat_eq, nat_le, nat_lt}
 use Rattle.std.proofs.lemmas.Bool.{cases_Bool, eqb-true, eqb-false, both_ways, or_from, or_left, and_left, ne_eqb, ltb-true, ltb-false}
 use Rattle.std.proofs.lemmas.List.{get_or_past}
 use Rattle.vk_types.specs.declared.ops.Node.{Node}
@@ -12,7 +12,7 @@ use Rattle.vk_types.specs.Touches.{the_end}
 use Rattle.vk_model.proofs.Copies.{covered_from}
 use Rattle.vk_model.proofs.Executing.{node_executed}
 use Rattle.vk_objects.specs.declared.objects.Objects.{Objects}
-use Rattle.vk_objects.specs.Objects.{object_at, kind_of, bytes_in, bytes_of, kinds_of, contents_of, SetsBytes, Rewrites, Executes}
+use Rattle.vk_objects.specs.Objects.{kind_of, bytes_in, bytes_of, kinds_of, contents_of, SetsBytes, Rewrites, Executes}
 
 same_or_not : (a b : ℕ) → (a ≡ b) ⊎ (a ≢ b)
 same_or_not a b = go (cases_Bool (nat_eq a b))

@@ -1,6 +1,6 @@
 -- Texels of an image as lists of bytes, and rows that grow by one piece.
-use Rattle.std.proofs.Common.{◌≡◌, ℕ, zero, suc, ◌+◌, ◌-◌, ◌*◌, ◌/◌, ◌%◌, ◌<◌, ◌≤◌, List, [], ◌∷◌, length, map, take, drop, get_or, Bool, true, false, cond, refl, sym, ◌∙◌, ap, subst, arith, add-zero, inl, inr}
-use Rattle.std.specs.Prelude.{◌⊎◌, ◌&&◌, nat_lt, slice_index}
+use Rattle.std.proofs.Common.{◌≡◌, ℕ, zero, suc, ◌+◌, ◌-◌, ◌*◌, ◌<◌, ◌≤◌, List, [], ◌∷◌, length, map, take, drop, get_or, true, false, refl, sym, ◌∙◌, ap, arith, add-zero, inl, inr}
+use Rattle.std.specs.Prelude.{◌⊎◌, nat_lt, slice_index}
 use Rattle.std.specs.List.{range_with_len, flat_map}
 use Rattle.formats.specs.Texel.{component_bits, has_signed_components}
 use Rattle.formats.specs.Components.{low_bytes, filled, all_widened, components}
@@ -8,7 +8,6 @@ use Rattle.vk_model.specs.Texels.{format_at, expanded_texel}
 use Rattle.std.proofs.lemmas.Bool.{cases_Bool, and_from, lt-ltb, ltb-true, ltb-false, cond-true}
 use Rattle.std.proofs.lemmas.List.{drop_more}
 use Rattle.std.proofs.lemmas.Grind.{get_or_default_zero}
-use Rattle.std.proofs.lemmas.Nat.{div-mul-add, mod-mul-add}
 use Rattle.cells.specs.Contents.{UNDEFINED, cell_at, cells, part, overwritten}
 use Rattle.vk_model.specs.Cells.{all_defined, converted}
 use Rattle.vk_objects.specs.Rows.{HasRow}

@@ -1,5 +1,5 @@
 -- Loads that clear a whole image, and clears in order.
-use Rattle.std.proofs.Common.{◌≡◌, ℕ, ◌+◌, ◌-◌, ◌*◌, ◌/◌, ◌%◌, ◌<◌, ◌≤◌, List, [], ◌∷◌, ◌++◌, Bool, true, false, cond, refl, sym, ◌∙◌, ap, subst, arith, lit<, inl, inr}
+use Rattle.std.proofs.Common.{◌≡◌, ℕ, ◌-◌, ◌*◌, ◌/◌, ◌<◌, ◌≤◌, List, [], ◌∷◌, ◌++◌, true, false, refl, sym, ◌∙◌, ap, subst, arith, lit<, inl, inr}
 use Rattle.std.specs.Prelude.{◌⊎◌, Option, Some, None, nat_lt, pos, slice_index}
 use Rattle.std.proofs.lemmas.Bool.{cases_Bool, ltb-true, ltb-false, cond-true, cond-false}
 use Rattle.std.proofs.lemmas.Nat.{div_below, mod_below, le-div}
@@ -9,7 +9,6 @@ use Rattle.formats.specs.Texel.{bytes_per_texel}
 use Rattle.vk_model.specs.Texels.{format_at}
 use Rattle.vk_types.specs.declared.handles.Kind.{Kind}
 use Rattle.vk_types.specs.declared.regions.Clear.{Clear}
-use Rattle.vk_types.specs.declared.ops.Load.{Load}
 use Rattle.vk_types.specs.declared.ops.Load.TheVariants as loads
 use Rattle.vk_model.specs.Cells.{texel_size, column_at, row_at, byte_at, behind, at_both, clear_image, cleared, loaded}
 use Rattle.cells.specs.Contents.{AgreesAt}

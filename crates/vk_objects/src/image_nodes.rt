@@ -1,16 +1,16 @@
 // Nodes on images.
-ghost use Rattle.std.specs.Prelude.{◌≡◌, ◌≢◌, ◌*◌, false};
+ghost use Rattle.std.specs.Prelude.{◌≡◌, ◌≢◌, ◌*◌};
 ghost use Rattle.vk_model.specs.Cells.{texel_size};
 ghost use Rattle.vk_model.specs.Fitting.{HasRect, HasRange, OpFits, format_in};
 ghost use Rattle.vk_types.specs.declared.ops.Op.TheVariants.{ClearImage, CopyImage, BufferToImage, ImageToBuffer};
-ghost use Rattle.vk_types.specs.Touches.{rows_size};
+ghost use Rattle.vk_types.specs.Touches.{rows_size, buffer_texel};
 ghost use Rattle.vk_objects.specs.Images.{IsCleared, AreWritten, AreCopied};
 ghost use Rattle.vk_objects.specs.Rows.{row_byte, HasOutRows};
 ghost use Rattle.vk_objects.specs.Objects.{kind_of, bytes_of, kinds_of, HasSize, HaveSizes, Rewrites, Executes};
 
 use crate::Objects;
 use crate::images::{clear, write_rows};
-use crate::out_rows::read_rows;
+use crate::out_rows::read_area;
 use crate::shapes::Area;
 use vk_types::{HandleId, Rect};
 
@@ -101,20 +101,29 @@ fn put_out_rows(
     dst: HandleId,
     dst_at: usize,
     stride: usize,
+    expand: bool,
 )
     requires rect { HasRect (kind_of objects.old src.0) rect }
     requires src_sized { HasSize (kind_of objects.old src.0) (bytes_of objects.old src.0) }
-    requires dst { HasRange (kind_of objects.old dst.0) dst_at (rows_size rect stride (texel_size (kinds_of objects.old src.0))) }
+    requires dst { HasRange (kind_of objects.old dst.0) dst_at (rows_size rect stride (buffer_texel (texel_size (kinds_of objects.old src.0)) expand)) }
     requires sized { HasSize (kind_of objects.old dst.0) (bytes_of objects.old dst.0) }
     ensures rewrites { Rewrites objects.old objects.new dst.0 }
-    ensures rows { HasOutRows (bytes_of objects.old dst.0) (bytes_of objects.new dst.0) dst_at (rect.w * texel_size (kinds_of objects.old src.0)) stride rect.h
-        (row_byte (kinds_of objects.old src.0) (bytes_of objects.old src.0) rect (texel_size (kinds_of objects.old src.0)) false) }
+    ensures rows { HasOutRows (bytes_of objects.old dst.0) (bytes_of objects.new dst.0) dst_at (rect.w * buffer_texel (texel_size (kinds_of objects.old src.0)) expand) stride rect.h
+        (row_byte (kinds_of objects.old src.0) (bytes_of objects.old src.0) rect (buffer_texel (texel_size (kinds_of objects.old src.0)) expand) expand) }
 {
     let shape = objects.shape(src);
     let area = Area::of(rect, shape);
     let mut bytes = objects.take(dst);
     match objects.bytes(src) {
-        Some(image) => read_rows(bytes.as_mut_slice(), dst_at, stride, image, shape, area),
+        Some(image) => read_area(
+            bytes.as_mut_slice(),
+            dst_at,
+            stride,
+            image,
+            shape,
+            area,
+            expand,
+        ),
         None => unreachable!(),
     }
     objects.put_back(dst, bytes);
@@ -162,7 +171,7 @@ pub(crate) fn buffer_to_image(
     put_rows(objects, src, src_at as usize, stride as usize, dst, rect);
 }
 
-/// Copies rows of an image to a buffer, each texel as it is.
+/// Copies rows of an image to a buffer, each texel as it is or as four words.
 pub(crate) fn image_to_buffer(
     objects: &mut Objects,
     src: HandleId,
@@ -171,10 +180,19 @@ pub(crate) fn image_to_buffer(
     dst_at: u64,
     stride: u64,
     texel_size: u32,
+    expand: bool,
 )
-    requires fits { OpFits (kind_of objects.old) (ImageToBuffer src rect dst dst_at stride texel_size false) }
+    requires fits { OpFits (kind_of objects.old) (ImageToBuffer src rect dst dst_at stride texel_size expand) }
     requires sized { HaveSizes objects.old }
-    ensures { Executes objects.old objects.new (record { op = ImageToBuffer src rect dst dst_at stride texel_size false }) }
+    ensures { Executes objects.old objects.new (record { op = ImageToBuffer src rect dst dst_at stride texel_size expand }) }
 {
-    put_out_rows(objects, src, rect, dst, dst_at as usize, stride as usize);
+    put_out_rows(
+        objects,
+        src,
+        rect,
+        dst,
+        dst_at as usize,
+        stride as usize,
+        expand,
+    );
 }

@@ -4,10 +4,15 @@
 mod buffers;
 mod image_nodes;
 mod images;
+mod nodes;
 mod objects;
 mod out_rows;
 mod passes;
 mod shapes;
 mod texels;
 
+pub use nodes::execute;
 pub use objects::Objects;
+
+#[cfg(test)]
+mod tests;

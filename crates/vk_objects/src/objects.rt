@@ -1,5 +1,5 @@
 // Live objects by their numbers.
-ghost use Rattle.std.specs.Prelude.{◌≡◌, ℕ, [], None, Some, IsSome, OnOk, OnErr, option_map, replicate};
+ghost use Rattle.std.specs.Prelude.{◌≡◌, ℕ, [], None, Some, IsSome, OnOk, OnErr, option_map};
 ghost use Rattle.std.specs.Prelude.{◌<◌, ◌^◌, length};
 ghost use Rattle.vk_model.specs.Texels.{texel_bytes};
 ghost use Rattle.vk_model.specs.Fitting.{size_of, IsKind, IsImage};

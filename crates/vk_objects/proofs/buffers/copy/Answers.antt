@@ -1,4 +1,4 @@
-use Rattle.std.proofs.Common.{arith, lit<}
+use Rattle.std.proofs.Common.{arith}
 use Rattle.vk_objects.proofs.BufferNodes.{copy_executes}
 use Rattle.vk_objects.proofs.buffers.copy.Goals as goal
 

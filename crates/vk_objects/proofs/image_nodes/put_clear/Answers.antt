@@ -1,8 +1,7 @@
-use Rattle.std.proofs.Common.{◌≡◌, ℕ, List, length, sym, ◌∙◌, ap}
+use Rattle.std.proofs.Common.{◌≡◌, length, sym, ◌∙◌, ap}
 use Rattle.std.specs.Prelude.{unwrap_or}
 use Rattle.cells.specs.Contents.{cell_at}
 use Rattle.cells.proofs.Refills.{refilled-whole}
-use Rattle.vk_types.specs.declared.handles.Kind.{Kind}
 use Rattle.vk_types.specs.declared.handles.Kind.TheVariants.{Buffer}
 use Rattle.vk_model.specs.Cells.{clear_image}
 use Rattle.vk_objects.specs.Images.{kind_of_shape, rect_of}

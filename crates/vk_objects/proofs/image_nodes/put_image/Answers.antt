@@ -1,17 +1,16 @@
-use Rattle.std.proofs.Common.{◌≡◌, ℕ, ◌*◌, ◌<◌, List, length, sym, ◌∙◌, ap, subst, arith}
+use Rattle.std.proofs.Common.{◌≡◌, ◌*◌, ◌<◌, length, sym, ◌∙◌, ap, subst, arith}
 use Rattle.std.proofs.Math.Facts.{to_z-of_z}
 use mir.Val.{to_z, of_z}
 use mir.Syntax.{w32}
 use Rattle.std.specs.Prelude.{unwrap_or, option_map, Some, pos}
 use Rattle.cells.specs.Contents.{cell_at}
 use Rattle.cells.proofs.Refills.{refilled-whole}
-use Rattle.vk_types.specs.declared.handles.Kind.{Kind}
 use Rattle.vk_types.specs.declared.handles.Kind.TheVariants.{Buffer}
 use Rattle.vk_model.specs.Texels.{texel_bytes}
 use Rattle.vk_model.specs.Cells.{place, buffer_to_image, copy_image, texel_size}
 use Rattle.vk_model.specs.Fitting.{format_in}
-use Rattle.vk_objects.specs.Images.{kind_of_shape, rect_of, HasAll, HasRows}
-use Rattle.vk_objects.specs.Objects.{kind_of, bytes_of, kinds_of, HasSize}
+use Rattle.vk_objects.specs.Images.{kind_of_shape, rect_of, HasRows}
+use Rattle.vk_objects.specs.Objects.{bytes_of, kinds_of, HasSize}
 use Rattle.vk_objects.proofs.Fits.{bytes_found}
 use Rattle.vk_objects.proofs.ImageNodes.{source_rows, rows_are_copied}
 use Rattle.vk_objects.proofs.image_nodes.put_image.Goals as goal

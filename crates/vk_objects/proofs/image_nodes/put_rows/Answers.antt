@@ -1,10 +1,8 @@
-use Rattle.std.proofs.Common.{◌≡◌, ◌≢◌, ℕ, ◌+◌, ◌*◌, ◌<◌, ◌≤◌, List, length, sym, ◌∙◌, ap, subst, arith}
-use Rattle.std.specs.Prelude.{unwrap_or, option_map, Some}
+use Rattle.std.proofs.Common.{◌≡◌, ◌≢◌, ◌*◌, length, sym, ◌∙◌, ap, subst, arith}
+use Rattle.std.specs.Prelude.{unwrap_or, option_map}
 use Rattle.cells.specs.Contents.{cell_at}
 use Rattle.cells.proofs.Refills.{refilled-whole}
-use Rattle.vk_types.specs.declared.handles.Kind.{Kind}
 use Rattle.vk_types.specs.declared.handles.Kind.TheVariants.{Buffer}
-use Rattle.vk_types.specs.declared.regions.Rect.{Rect}
 use Rattle.vk_types.specs.Touches.{rows_size}
 use Rattle.vk_model.specs.Cells.{buffer_to_image, texel_size}
 use Rattle.vk_objects.specs.Images.{kind_of_shape, rect_of, HasRows}

@@ -1,6 +1,5 @@
-use Rattle.std.proofs.Common.{◌≡◌, ◌+◌, ◌*◌, ◌≤◌, length, ℕ, arith, subst, sym}
+use Rattle.std.proofs.Common.{◌≡◌, ◌+◌, ◌*◌, ◌≤◌, length, arith, subst, sym}
 use Rattle.std.proofs.Math.Nat.{mul-le-mul_right}
-use Rattle.cells.specs.Contents.{overwritten}
 use Rattle.vk_objects.specs.Images.{IsPainted}
 use Rattle.vk_objects.proofs.Paints.{none_painted, one_painted}
 use Rattle.vk_objects.proofs.RowSteps.{distributes}

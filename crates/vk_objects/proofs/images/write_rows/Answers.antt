@@ -1,4 +1,4 @@
-use Rattle.std.proofs.Common.{◌≡◌, ◌+◌, ◌*◌, ◌<◌, ◌≤◌, length, ℕ, List, sym, ◌∙◌, ap, subst, arith}
+use Rattle.std.proofs.Common.{◌≡◌, ◌+◌, ◌*◌, ◌<◌, ◌≤◌, length, sym, ◌∙◌, ap, subst, arith}
 use Rattle.cells.specs.Contents.{part, overwritten}
 use Rattle.vk_model.specs.Cells.{place, texel_size}
 use Rattle.vk_objects.specs.Images.{kind_of_shape, rect_of, HasAll, AreWritten}

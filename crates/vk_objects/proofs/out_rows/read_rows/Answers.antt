@@ -1,9 +1,8 @@
-use Rattle.std.proofs.Common.{◌≡◌, ◌+◌, ◌*◌, ◌<◌, ◌≤◌, length, ℕ, List, false, sym, ◌∙◌, ap, subst, arith}
+use Rattle.std.proofs.Common.{◌≡◌, ◌+◌, ◌*◌, ◌<◌, ◌≤◌, length, false, sym, ◌∙◌, ap, subst, arith}
 use Rattle.cells.specs.Contents.{part, overwritten}
 use Rattle.vk_model.specs.Cells.{place, texel_size}
-use Rattle.vk_objects.specs.Images.{kind_of_shape, rect_of, HasAll}
-use Rattle.vk_objects.specs.Rows.{row_byte, HasOutRows, HasRow}
-use Rattle.vk_objects.proofs.Parts.{length-part}
+use Rattle.vk_objects.specs.Images.{kind_of_shape, rect_of}
+use Rattle.vk_objects.specs.Rows.{row_byte, HasRow}
 use Rattle.vk_objects.proofs.ImageNodes.{row_fits}
 use Rattle.vk_objects.proofs.OutRows.{no_out_rows, out_row_step, plain_row}
 use Rattle.vk_objects.proofs.out_rows.read_rows.Goals as goal

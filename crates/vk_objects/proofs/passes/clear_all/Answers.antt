@@ -1,4 +1,4 @@
-use Rattle.std.proofs.Common.{◌≡◌, ℕ, [], take, get_or, sym, ◌∙◌, ap}
+use Rattle.std.proofs.Common.{[], take, get_or, sym, ◌∙◌, ap}
 use Rattle.std.specs.Prelude.{pos}
 use Rattle.std.proofs.lemmas.List.{take_more}
 use Rattle.cells.specs.Contents.{cell_at}

@@ -1,4 +1,4 @@
-use Rattle.std.proofs.Common.{◌≡◌, sym, ◌∙◌, ap}
+use Rattle.std.proofs.Common.{sym, ◌∙◌, ap}
 use Rattle.cells.specs.Contents.{cell_at}
 use Rattle.vk_model.specs.Cells.{clear_image, loaded}
 use Rattle.vk_objects.specs.Images.{kind_of_shape}

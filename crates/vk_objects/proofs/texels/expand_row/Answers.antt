@@ -1,11 +1,11 @@
 use mathlib.Core.Path.{fun_ext}
-use Rattle.std.proofs.Common.{◌≡◌, ℕ, ◌+◌, ◌*◌, ◌/◌, ◌%◌, ◌<◌, ◌≤◌, List, length, get_or, true, sym, ◌∙◌, ap, subst, arith}
+use Rattle.std.proofs.Common.{◌≡◌, ℕ, ◌+◌, ◌*◌, ◌/◌, ◌%◌, ◌<◌, ◌≤◌, length, get_or, true, sym, ◌∙◌, ap, subst, arith}
 use Rattle.std.specs.Prelude.{slice_index}
 use Rattle.std.proofs.Math.Nat.{mul-le-mul_right}
 use Rattle.std.proofs.lemmas.Grind.{get_or_default_zero}
 use Rattle.std.proofs.lemmas.Nat.{div-mul-add, mod-mul-add}
 use Rattle.cells.specs.Contents.{UNDEFINED, cell_at, part, overwritten}
-use Rattle.vk_model.specs.Texels.{texel_bytes, expanded_texel}
+use Rattle.vk_model.specs.Texels.{expanded_texel}
 use Rattle.vk_model.specs.Cells.{place, texel_size, texel_to_buffer, converted}
 use Rattle.vk_objects.specs.Images.{kind_of_shape}
 use Rattle.vk_objects.specs.Rows.{HasRow}
@@ -41,12 +41,12 @@ loop-x-preserved c =
     let has : at + x * 16 + 16 ≤ length now = omega (arith, rows, c.requires.fits, c.loop-x.auto.bytes) in
     let small : (i : ℕ) → get_or image i 0 < 256 = λ i. (c.type_inv.image i).fits in
     let row : HasRow c.args.bytes.now (overwritten now (at + x * 16) piece) at ((x + 1) * 16) g = row_more c.args.bytes.now now piece at x 16 g c.loop-x.invariant len has (λ b lt.
-        let texel : texel_to_buffer kind (cell_at image) true column c.args.row b ≡ slice_index (expanded_texel s.format (part image start t)) b =
-            (let places : (b : ℕ) → place kind column c.args.row b ≡ start + b = λ b. omega arith in
-            ap (λ f. converted (expanded_texel s.format) f t b) (fun_ext (λ b. ap (cell_at image) (places b))) ∙ texel_converted image small start (expanded_texel s.format) t b fits) in
-        get_or_default_zero piece b UNDEFINED (omega (arith, len, lt))
-        ∙ ap (λ l. slice_index l b) piece_is
-        ∙ sym texel
-        ∙ ap (λ n. texel_to_buffer kind (cell_at image) true (c.args.left + n) c.args.row b) (sym (div-mul-add x 16 b lt))
-        ∙ ap (texel_to_buffer kind (cell_at image) true (c.args.left + (x * 16 + b) / 16) c.args.row) (sym (mod-mul-add x 16 b lt))) in
+    let texel : texel_to_buffer kind (cell_at image) true column c.args.row b ≡ slice_index (expanded_texel s.format (part image start t)) b =
+    (let places : (b : ℕ) → place kind column c.args.row b ≡ start + b = λ b. omega arith in
+    ap (λ f. converted (expanded_texel s.format) f t b) (fun_ext (λ b. ap (cell_at image) (places b))) ∙ texel_converted image small start (expanded_texel s.format) t b fits) in
+    get_or_default_zero piece b UNDEFINED (omega (arith, len, lt))
+    ∙ ap (λ l. slice_index l b) piece_is
+    ∙ sym texel
+    ∙ ap (λ n. texel_to_buffer kind (cell_at image) true (c.args.left + n) c.args.row b) (sym (div-mul-add x 16 b lt))
+    ∙ ap (texel_to_buffer kind (cell_at image) true (c.args.left + (x * 16 + b) / 16) c.args.row) (sym (mod-mul-add x 16 b lt))) in
     subst (λ l. HasRow c.args.bytes.now l at ((x + 1) * 16) g) (sym c.put.ensures) row
