@@ -1,0 +1,18 @@
+//! The bytes of a device's objects, and what its nodes do to them.
+#![tactic(auto)]
+
+mod buffers;
+mod image_nodes;
+mod images;
+mod nodes;
+mod objects;
+mod out_rows;
+mod passes;
+mod shapes;
+mod texels;
+
+pub use nodes::execute;
+pub use objects::Objects;
+
+#[cfg(test)]
+mod tests;
