@@ -18,3 +18,8 @@ state_after-push state place [] e = ap (after_entry state e) (sym (add-zero plac
 state_after-push state place (x ∷ es) e =
     state_after-push (after_entry state x place) (place + 1) es e
     ∙ ap (after_entry (state_after (after_entry state x place) (place + 1) es) e) (one_later place (length es))
+
+-- each beginning of a legal history is legal
+pub IsLegalFrom-beginning : (state : GroupModel) (place : ℕ) (es more : List Entry) → IsLegalFrom state place (es ++ more) → IsLegalFrom state place es
+IsLegalFrom-beginning state place [] more legal = tt
+IsLegalFrom-beginning state place (x ∷ es) more legal = (legal.0, IsLegalFrom-beginning (after_entry state x place) (place + 1) es more legal.1)

@@ -1,5 +1,12 @@
 pub mod LegalLemmas
 pub mod CappedSums
+pub mod TableLaws
+pub mod StoreLaws
+pub mod StoreSizes
+pub mod SizeLaws
+pub mod CallSizes
+pub mod ReachedSizes
+pub mod GroupLaws
 pub mod BufferHistories
 pub mod ImageHistories
 pub mod CopyHistories

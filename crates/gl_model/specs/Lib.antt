@@ -17,3 +17,5 @@ pub mod BufferEffect
 pub mod ImageEffect
 pub mod Effect
 pub mod Legal
+pub mod Reached
+pub mod Sizes

@@ -1,0 +1,53 @@
+-- What the laws of histories speak of: the group without contents after some entries, and what holds in each reached state.
+use Rattle.std.specs.Prelude.{ℕ, Option, None, List, [], ◌∷◌, unwrap_or}
+use Rattle.std.specs.Option.{option_map_or}
+use Rattle.cells.specs.Contents.{Content}
+use Rattle.gl_calls.specs.declared.call.Call.{Call}
+use Rattle.gl_calls.specs.declared.call.Call.TheVariants as call
+use Rattle.gl_calls.specs.declared.call.PixelDestination.TheVariants as destination
+use Rattle.gl_calls.specs.declared.words.ObjectKind.TheVariants as kinds
+use Rattle.gl_calls.specs.declared.reply.Entry.{Entry}
+use Rattle.tables.specs.Table.{entry}
+use Rattle.gl_model.specs.GroupState.{Context, GroupState}
+use Rattle.gl_model.specs.Bindings.{current_context, buffer_binding}
+use Rattle.gl_model.specs.Refusal.{refusal}
+use Rattle.gl_model.specs.GroupEffect.{group_effect, object_of}
+use Rattle.gl_model.specs.GroupModel.{GroupModel, opening}
+use Rattle.gl_model.specs.Legal.{refused_group, state_after}
+
+-- the state after a history of the declared threads
+abbrev pub reached : List ℕ → List Entry → GroupModel
+reached threads history = state_after (opening threads) 0 history
+
+-- the group after an entry, by the group alone
+abbrev pub group_after : GroupState → Entry → GroupState
+group_after group e =
+    option_map_or (λ answer. refused_group group e.thread answer) (refusal group e.thread e.call) (group_effect group e.thread e.call)
+
+-- the group after some entries, by the group alone
+abbrev pub group_after_all : GroupState → List Entry → GroupState
+group_after_all group [] = group
+group_after_all group (e ∷ rest) = group_after_all (group_after group e) rest
+
+-- the buffer whose store an accepted call may change
+abbrev pub changed_buffer_in : GroupState → Context → Call → Option ℕ
+changed_buffer_in group context (call.Delete kinds.Buffer name) = object_of group.buffer_names name
+changed_buffer_in group context (call.BufferData target size usage payload) = buffer_binding context target
+changed_buffer_in group context (call.BufferSubData target offset payload) = buffer_binding context target
+changed_buffer_in group context (call.CopyBufferSubData from to read write size) = buffer_binding context to
+changed_buffer_in group context (call.MapBufferRange target offset len access) = buffer_binding context target
+changed_buffer_in group context (call.FlushMappedBufferRange target offset len) = buffer_binding context target
+changed_buffer_in group context (call.UnmapBuffer target) = buffer_binding context target
+changed_buffer_in group context (call.MapWrite target offset payload) = buffer_binding context target
+changed_buffer_in group context (call.ReadPixels x y width height format kind (destination.Offset at)) = context.pixel_pack
+changed_buffer_in group context _ = None
+
+abbrev pub changed_buffer : GroupState → ℕ → Call → Option ℕ
+changed_buffer group thread asked = option_map_or (λ context. changed_buffer_in group context asked) (current_context group thread) None
+
+-- the cells of a texture and of a renderbuffer
+abbrev pub texture_of : GroupModel → ℕ → Content
+texture_of state t = unwrap_or (entry t state.texture_cells) []
+
+abbrev pub renderbuffer_of : GroupModel → ℕ → Content
+renderbuffer_of state r = unwrap_or (entry r state.renderbuffer_cells) []
