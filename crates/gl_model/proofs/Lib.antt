@@ -2,10 +2,14 @@ pub mod LegalLemmas
 pub mod CappedSums
 pub mod TableLaws
 pub mod StoreLaws
+pub mod ImageLaws
 pub mod StoreSizes
+pub mod PictureSizes
+pub mod StorageLaws
 pub mod SizeLaws
 pub mod CallSizes
 pub mod ReachedSizes
+pub mod ReachedImages
 pub mod GroupLaws
 pub mod BufferHistories
 pub mod ImageHistories

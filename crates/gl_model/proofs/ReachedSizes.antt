@@ -112,7 +112,7 @@ gl_in-free group (Some current) asked b free = gl_free group current.0 current.1
 
 -- Before the sweep
 
-abbrev unswept : GroupState → ℕ → Call → GroupState
+abbrev pub unswept : GroupState → ℕ → Call → GroupState
 unswept group thread asked =
     if is_egl_call asked then with_egl_error (egl_change group thread asked) thread Success
     else gl_change_in group (current_entry group thread) asked
@@ -147,7 +147,7 @@ unswept-stores state thread asked sizes accepted formed b f h = in_entry state a
 
 -- An accepted call
 
-kept_some : {V : Type 0} (t : Bool) (o : Option V) (v : V) → cond t o None ≡ Some v → o ≡ Some v
+pub kept_some : {V : Type 0} (t : Bool) (o : Option V) (v : V) → cond t o None ≡ Some v → o ≡ Some v
 kept_some true o v h = h
 kept_some false o v h = let no : ⊥ = cc in absurd no
 

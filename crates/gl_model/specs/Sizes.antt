@@ -1,4 +1,4 @@
--- What holds of buffers in each reached state: what they hold has their size, and a map lies inside its buffer.
+-- What holds in each reached state: what buffers and images hold has their size, and a map lies inside its buffer.
 use Rattle.std.specs.Prelude.{ℕ, ◌+◌, ◌≤◌, ◌≡◌, Some, None, List, [], ◌∷◌, length, unsigned_abs, IfSome}
 use Rattle.gl_calls.specs.declared.call.Call.{Call}
 use Rattle.gl_calls.specs.declared.call.Call.TheVariants as call
@@ -6,6 +6,11 @@ use Rattle.gl_calls.specs.declared.reply.Entry.{Entry}
 use Rattle.gl_calls.specs.Words.{payload_len}
 use Rattle.tables.specs.Table.{entry}
 use Rattle.gl_model.specs.declared.objects.BufferFacts.{BufferFacts}
+use Rattle.gl_model.specs.declared.objects.ImageInfo.{ImageInfo}
+use Rattle.gl_model.specs.GroupState.{Attachment}
+use Rattle.gl_model.specs.Bindings.{attached_image}
+use Rattle.gl_model.specs.ImageEffect.{content_bytes}
+use Rattle.gl_model.specs.Reached.{cells_of}
 use Rattle.gl_model.specs.GroupModel.{GroupModel, Store}
 use Rattle.gl_model.specs.Effect.{store_of, empty_store}
 
@@ -30,3 +35,8 @@ HasItsData _ = Unit {0}
 abbrev pub HaveTheirData : List Entry → Type 0
 HaveTheirData [] = Unit {0}
 HaveTheirData (e ∷ rest) = HasItsData e.call × HaveTheirData rest
+
+-- what an image with storage holds is as long as its texels
+abbrev pub HasImageSizes : GroupModel → Type 0
+HasImageSizes state =
+    (image : Attachment) (info : ImageInfo) → attached_image state.group image ≡ Some info → length (cells_of state image) ≡ content_bytes info
