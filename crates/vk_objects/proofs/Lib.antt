@@ -8,3 +8,4 @@ pub mod OutRows
 pub mod Fits
 pub mod PassSteps
 pub mod Expanding
+pub mod BlitSteps

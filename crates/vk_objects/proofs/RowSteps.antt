@@ -20,7 +20,7 @@ abbrev pub so_far : Kind → Rect → (ℕ → ℕ → ℕ → ℕ) → ℕ → 
 so_far kind rect f k i old = in_rect kind (first_rows rect k) i (λ x y. f x y (byte_at kind i)) old
 
 -- a place is that of its column, its row and its byte
-place_of : (kind : Kind) (i : ℕ) → place kind (column_at kind i) (row_at kind i) (byte_at kind i) ≡ i
+pub place_of : (kind : Kind) (i : ℕ) → place kind (column_at kind i) (row_at kind i) (byte_at kind i) ≡ i
 place_of kind i =
     let t = texel_size kind in let w = width_of kind in
     ap (λ n. n * t + i % t) (div-add-mod' (i / t) w) ∙ div-add-mod' i t

@@ -1,5 +1,5 @@
 -- Live objects by their numbers, each with its kind and its bytes.
-use Rattle.std.specs.Prelude.{◌≡◌, ◌≢◌, ℕ, ◌<◌, ◌^◌, List, [], length, Option, Some, None, option_map, replicate, unwrap_or, Bool, true, false}
+use Rattle.std.specs.Prelude.{◌≡◌, ◌≢◌, ℕ, ◌<◌, ◌^◌, List, [], length, Option, Some, None, option_map, replicate, unwrap_or}
 use Rattle.std.specs.BTreeMap.{get}
 use Rattle.std.specs.Ordering.{nat_cmp}
 use Rattle.vk_types.specs.declared.handles.Kind.{Kind}
@@ -10,8 +10,6 @@ use Rattle.vk_model.specs.Log.{Command}
 use Rattle.vk_model.specs.Meaning.{apply, ContentsAgree}
 use Rattle.vk_model.specs.Fitting.{size_of, IsKind}
 use Rattle.vk_types.specs.declared.ops.Node.{Node}
-use Rattle.vk_types.specs.declared.ops.Op.{Op}
-use Rattle.vk_types.specs.declared.ops.Op.TheVariants.{CopyBuffer, BufferToImage, ImageToBuffer, CopyImage, BlitImage, ClearImage, FillBuffer, PassPart}
 use Rattle.vk_objects.specs.declared.objects.Object.{Object}
 use Rattle.vk_objects.specs.declared.objects.Objects.{Objects}
 
@@ -78,15 +76,3 @@ pub record Executes (old new : Objects) (n : Node) : Type 0 where
   pub agree : ContentsAgree (contents_of new) (apply (kinds_of old) (Command 0 n) (contents_of old))
   pub kinds : (id : ℕ) → kind_of new id ≡ kind_of old id
   pub sizes : (id : ℕ) → length (bytes_of new id) ≡ length (bytes_of old id)
-
--- whether an operation is a blit
-abbrev pub is_blit : Op → Bool
-is_blit (BlitImage src dst coords clip) = true
-is_blit (CopyBuffer src src_at dst dst_at size) = false
-is_blit (BufferToImage src src_at stride texel_size dst rect) = false
-is_blit (ImageToBuffer src rect dst dst_at stride texel_size expand) = false
-is_blit (CopyImage src src_x src_y dst rect) = false
-is_blit (ClearImage image rect texel) = false
-is_blit (FillBuffer dst dst_at size byte) = false
-is_blit (PassPart _ _ _ _ _ _) = false
-is_blit (Op.Barrier b) = false

@@ -1,18 +1,20 @@
 // Nodes on images.
 ghost use Rattle.std.specs.Prelude.{◌≡◌, ◌≢◌, ◌*◌};
 ghost use Rattle.vk_model.specs.Cells.{texel_size};
-ghost use Rattle.vk_model.specs.Fitting.{HasRect, HasRange, OpFits, format_in};
-ghost use Rattle.vk_types.specs.declared.ops.Op.TheVariants.{ClearImage, CopyImage, BufferToImage, ImageToBuffer};
+ghost use Rattle.vk_model.specs.Fitting.{HasRect, HasRange, OpFits, format_in, IsImage};
+ghost use Rattle.vk_types.specs.declared.ops.Op.TheVariants.{ClearImage, CopyImage, BufferToImage, ImageToBuffer, BlitImage};
 ghost use Rattle.vk_types.specs.Touches.{rows_size, buffer_texel};
 ghost use Rattle.vk_objects.specs.Images.{IsCleared, AreWritten, AreCopied};
+ghost use Rattle.vk_objects.specs.Blits.{IsBlitted};
 ghost use Rattle.vk_objects.specs.Rows.{row_byte, HasOutRows};
 ghost use Rattle.vk_objects.specs.Objects.{kind_of, bytes_of, kinds_of, HasSize, HaveSizes, Rewrites, Executes};
 
 use crate::Objects;
+use crate::blits::blit;
 use crate::images::{clear, write_rows};
 use crate::out_rows::read_area;
 use crate::shapes::Area;
-use vk_types::{HandleId, Rect};
+use vk_types::{Coords, HandleId, Rect};
 
 /// Clears a rectangle of an image.
 fn put_clear(objects: &mut Objects, image: HandleId, rect: Rect, texel: &[u8; 16])
@@ -195,4 +197,40 @@ pub(crate) fn image_to_buffer(
         stride as usize,
         expand,
     );
+}
+
+fn put_blit(objects: &mut Objects, src: HandleId, dst: HandleId, coords: &Coords, clip: Rect)
+    requires source { IsImage (kind_of objects.old src.0) }
+    requires src_sized { HasSize (kind_of objects.old src.0) (bytes_of objects.old src.0) }
+    requires rect { HasRect (kind_of objects.old dst.0) clip }
+    requires sized { HasSize (kind_of objects.old dst.0) (bytes_of objects.old dst.0) }
+    requires apart { src.0 ≢ dst.0 }
+    ensures rewrites { Rewrites objects.old objects.new dst.0 }
+    ensures blitted { IsBlitted (bytes_of objects.old dst.0) (bytes_of objects.new dst.0) (kinds_of objects.old src.0) (kinds_of objects.old dst.0)
+        (bytes_of objects.old src.0) coords.now clip }
+{
+    let source = objects.shape(src);
+    let shape = objects.shape(dst);
+    let area = Area::of(clip, shape);
+    let mut bytes = objects.take(dst);
+    match objects.bytes(src) {
+        Some(image) => blit(bytes.as_mut_slice(), shape, image, source, coords, area),
+        None => unreachable!(),
+    }
+    objects.put_back(dst, bytes);
+}
+
+/// Copies and scales texels between two images.
+pub(crate) fn blit_image(
+    objects: &mut Objects,
+    src: HandleId,
+    dst: HandleId,
+    coords: &Coords,
+    clip: Rect,
+)
+    requires fits { OpFits (kind_of objects.old) (BlitImage src dst coords.now clip) }
+    requires sized { HaveSizes objects.old }
+    ensures { Executes objects.old objects.new (record { op = BlitImage src dst coords.now clip }) }
+{
+    put_blit(objects, src, dst, coords, clip);
 }

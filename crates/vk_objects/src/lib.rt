@@ -1,6 +1,7 @@
 //! The bytes of a device's objects, and what its nodes do to them.
 #![tactic(auto)]
 
+mod blits;
 mod buffers;
 mod image_nodes;
 mod images;

@@ -1,11 +1,10 @@
 // What a node does to the bytes of the objects.
-ghost use Rattle.std.specs.Prelude.{◌≡◌, false};
 ghost use Rattle.vk_model.specs.Fitting.{NodeFits};
-ghost use Rattle.vk_objects.specs.Objects.{kind_of, HaveSizes, Executes, is_blit};
+ghost use Rattle.vk_objects.specs.Objects.{kind_of, HaveSizes, Executes};
 
 use crate::Objects;
 use crate::buffers::{copy, fill};
-use crate::image_nodes::{buffer_to_image, clear_image, copy_image, image_to_buffer};
+use crate::image_nodes::{blit_image, buffer_to_image, clear_image, copy_image, image_to_buffer};
 use crate::passes::pass_part;
 use vk_types::{Node, Op};
 
@@ -14,7 +13,6 @@ use vk_types::{Node, Op};
 pub fn execute(node: &Node, objects: &mut Objects)
     requires fits { NodeFits (kind_of objects.old) node.now }
     requires sized { HaveSizes objects.old }
-    requires no_blit { is_blit node.now.op ≡ false }
     ensures { Executes objects.old objects.new node.now }
 {
     match &node.op {
@@ -73,7 +71,12 @@ pub fn execute(node: &Node, objects: &mut Objects)
         } => {
             copy_image(objects, *src, *src_x, *src_y, *dst, *rect);
         }
-        Op::BlitImage { .. } => unreachable!(),
+        Op::BlitImage {
+            src,
+            dst,
+            coords,
+            clip,
+        } => blit_image(objects, *src, *dst, coords, *clip),
         Op::ClearImage { image, rect, texel } => clear_image(objects, *image, *rect, texel),
         Op::FillBuffer {
             dst,

@@ -11,7 +11,7 @@ use crate::shapes::Shape;
 use formats::Format;
 
 /// The format at a place of the list of formats.
-fn format(number: u8) -> Format
+pub(crate) fn format(number: u8) -> Format
     requires { number < 12 }
     ensures { result ≡ format_at number }
 {

@@ -7,3 +7,6 @@ returns-in-ImageToBuffer c = subst (λ o. Executes c.args.objects.now c.image_to
 
 pub returns-in-PassPart : goal.returns-in-PassPart
 returns-in-PassPart c = subst (λ o. Executes c.args.objects.now c.pass_part.new.objects (record { op = o })) (sym c.in-PassPart.is) c.pass_part.ensures
+
+pub returns-in-BlitImage : goal.returns-in-BlitImage
+returns-in-BlitImage c = subst (λ o. Executes c.args.objects.now c.blit_image.new.objects (record { op = o })) (sym c.in-BlitImage.is) c.blit_image.ensures
