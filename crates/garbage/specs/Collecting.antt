@@ -23,3 +23,9 @@ pub record TakesOut (old : List Garbage) (new : List Garbage) (from : ℕ) (read
   pub after : from ≤ place
   pub covered : is_covered read item ≡ true
   pub first : AreKept read new from place
+
+-- taking out from a place on until no entry is covered there: what was taken, in order, and what is left
+abbrev pub CleansUp : List ℕ → List Garbage → ℕ → List Garbage → List Garbage → Type 0
+CleansUp read list from [] left = (left ≡ list) × AreKept read list from (length list)
+CleansUp read list from (item ∷ taken) left =
+    (new : List Garbage) × (place : ℕ) × TakesOut list new from read place item × CleansUp read new place taken left
