@@ -1,0 +1,5 @@
+//! Tests of the bookkeeping crates together.
+#![tactic(auto)]
+
+#[cfg(test)]
+mod tests;

@@ -1,0 +1,32 @@
+-- A garbage list as its two parts.
+use Rattle.std.specs.Prelude.{◌≡◌, ℕ, ◌+◌, ◌-◌, ◌≤◌, min, List, ◌++◌}
+use Rattle.std.specs.VecDeque.{deque_len, deque_capacity}
+use Rattle.garbage.specs.declared.entry.Garbage.{Garbage}
+use Rattle.garbage.specs.declared.turning.Turning.{Turning}
+
+-- the entries that a cleanup passed, and then those that are to come
+abbrev pub in_order : Turning → List Garbage
+in_order t = t.passed.items ++ t.coming.items
+
+-- how many entries stand in both parts
+abbrev pub count : Turning → ℕ
+count t = deque_len t.passed + deque_len t.coming
+
+-- each part has room for all entries and so many more
+abbrev pub HasRoom : Turning → ℕ → Type 0
+HasRoom t more = (count t + more ≤ deque_capacity t.passed) × (count t + more ≤ deque_capacity t.coming)
+
+-- so many more entries fit
+abbrev pub room : Turning → ℕ
+room t = min (deque_capacity t.passed) (deque_capacity t.coming) - count t
+
+-- the same entries in the same room, divided elsewhere
+pub record OnlyTurns (old : Turning) (new : Turning) : Type 0 where
+  pub order : in_order new ≡ in_order old
+  pub count : count new ≡ count old
+  pub capacity : min (deque_capacity new.passed) (deque_capacity new.coming) ≡ min (deque_capacity old.passed) (deque_capacity old.coming)
+
+-- the entries of a garbage list in order, and how many can be put without memory
+pub record GarbageAndRoom : Type 0 where
+  pub items : List Garbage
+  pub room : ℕ
