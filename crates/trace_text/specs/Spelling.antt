@@ -26,8 +26,8 @@ abbrev pub IsNumber : ℕ → ℕ → List ℕ → ℕ → Type 0
 IsNumber low high word n = (word ≡ decimal n) × (low ≤ n) × (n ≤ high)
 
 abbrev pub IsSigned : ℕ → List ℕ → ℤ → Type 0
-IsSigned limit word (pos n) = (word ≡ decimal n) × (n < limit)
-IsSigned limit word (negsuc n) = (word ≡ 45 ∷ decimal (suc n)) × (n < limit)
+IsSigned bound word (pos n) = (word ≡ decimal n) × (n < bound)
+IsSigned bound word (negsuc n) = (word ≡ 45 ∷ decimal (suc n)) × (n < bound)
 
 abbrev pub IsSource : List ℕ → PixelSource → Type 0
 IsSource word (source.Client p) = payload_of word ≡ Ok p
@@ -53,7 +53,7 @@ IsPayloadOrNull word (Some p) = payload_of word ≡ Ok p
 -- the word of a buffer that is given
 abbrev pub IsGiven : List ℕ → Option DrawBuffer → Type 0
 IsGiven word None = ⊥
-IsGiven word (Some buffer) = StandsFor draw_buffers word buffer
+IsGiven word (Some b) = StandsFor draw_buffers word b
 
 -- the word is a spelling of the value at the place
 abbrev pub Spelled : (p : Position) → List ℕ → Meaning p → Type 0

@@ -44,9 +44,8 @@ pub fn cost(call: &Call) -> u128
         Call::MapBufferRange { length, .. } | Call::MapRead { length, .. } => {
             u128::from(not_negative(*length).min(MOST_BYTES))
         }
-        Call::TexStorage { width, height, .. } | Call::RenderbufferStorage { width, height, .. } => {
-            area_cost(*width, *height).min(67_108_864)
-        }
+        Call::TexStorage { width, height, .. } | Call::RenderbufferStorage { width, height, .. } =>
+            { area_cost(*width, *height).min(67_108_864) }
         Call::TexSubImage { source, .. } => source_cost(source),
         Call::ReadPixels { width, height, .. } => area_cost(*width, *height),
         _ => 0,
