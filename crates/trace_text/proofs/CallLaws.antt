@@ -24,21 +24,9 @@ use Rattle.trace_words.specs.Data.{payload_of, access_of, hex_bytes}
 use Rattle.trace_words.specs.Positions.{Position, Meaning, read, take_first, absent, source_of, destination_of, buffer, framebuffer, bind_target, object_kind, usage, format, pixel_format, pixel_type, point, attached, draw_buffer, draw_buffer_if_any, access, parameter, limit, u32, u64, i32, i64, flag, switch, handle, handle_or_zero, payload, payload_or_null, pixel_source, pixel_destination, wait_end, mask, filter, condition}
 use Rattle.trace_text.specs.Grammar.{Arguments, arguments, form, least, call_of}
 use Rattle.trace_text.specs.Spelling.{StandsFor, IsNumber, IsSource, IsDestination, IsWaitEnd, IsPayloadOrNull, IsGiven, flag_number, Spelled, SpelledAll, SpelledCall}
+use Rattle.trace_text.proofs.Steps.{or_fault_some, bind_ok, map_some, ok_is}
+use Rattle.trace_text.proofs.PayloadLaws.{payload_takes, payload_again}
 use Rattle.trace_text.proofs.WordLaws.{meaning_takes, meaning_again, are_distinct, number_takes, number_again, signed_takes, signed_again}
-
--- ---- steps that may fail
-
-pub or_fault_some : {A : Type 0} (f : Fault) (o : Option A) (x : A) → or_fault f o ≡ Ok x → o ≡ Some x
-or_fault_some f (Some y) x e = let same : y ≡ x = cc in ap (λ v. Some v) same
-or_fault_some f None x e = absurd cc
-
-pub bind_ok : {A B : Type 0} (r : Result A Fault) (f : A → Result B Fault) (y : B) → (r >>= f) ≡ Ok y → (x : A) × (r ≡ Ok x) × (f x ≡ Ok y)
-bind_ok (Ok x) f y e = (x, refl, e)
-bind_ok (Err d) f y e = absurd cc
-
-map_some : {A B : Type 0} (f : A → B) (o : Option A) (y : B) → option_map f o ≡ Some y → (x : A) × (o ≡ Some x) × (f x ≡ y)
-map_some f None y e = absurd cc
-map_some f (Some x) y e = (x, refl, cc)
 
 -- ---- a word at a place
 
@@ -97,7 +85,7 @@ source_takes [] s e = absurd cc
 source_takes (c ∷ cs) s e = go (eqb c 43) refl e
   where
     client : (s : PixelSource) (x : (p : Payload) × (payload_of (c ∷ cs) ≡ Ok p) × (made p ≡ Ok s)) → IsSource (c ∷ cs) s
-    client s x = let same : source.Client x.0 ≡ s = cc in subst (λ (y : PixelSource). IsSource (c ∷ cs) y) same x.1
+    client s x = let same : source.Client x.0 ≡ s = cc in subst (λ (y : PixelSource). IsSource (c ∷ cs) y) same (payload_takes (c ∷ cs) x.0 x.1)
 
     go : (b : Bool) → eqb c 43 ≡ b → cond b (or_fault fault.Number (option_map source.Offset (number_of 0 18446744073709551615 cs))) (payload_of (c ∷ cs) >>= made) ≡ Ok s → IsSource (c ∷ cs) s
     go true is e =
@@ -115,7 +103,7 @@ client_again (c ∷ cs) p h = go (eqb c 43) refl
     go false is = ap (λ (r : Result Payload Fault). r >>= made) h
 
 source_again : (word : List ℕ) (s : PixelSource) → IsSource word s → source_of word ≡ Ok s
-source_again word (source.Client p) h = client_again word p h
+source_again word (source.Client p) h = client_again word p (payload_again word p h)
 source_again word (source.Offset n) h = ap source_of h.1 ∙ rw (number_again 0 18446744073709551615 h.0 n (omega arith) h.2) refl
 
 destination_takes : (word : List ℕ) (s : PixelDestination) → destination_of word ≡ Ok s → IsDestination word s
@@ -168,7 +156,7 @@ null_takes : (word : List ℕ) (value : Option Payload) → cond (bytes_eq word 
 null_takes word value e = go (keyword word (codes "null") None value (payload_of word >>= some_payload) (bytes_eq word (codes "null")) refl e)
   where
     some : (x : (p : Payload) × (payload_of word ≡ Ok p) × (some_payload p ≡ Ok value)) → IsPayloadOrNull word value
-    some x = let same : Some x.0 ≡ value = cc in subst (λ (y : Option Payload). IsPayloadOrNull word y) same x.1
+    some x = let same : Some x.0 ≡ value = cc in subst (λ (y : Option Payload). IsPayloadOrNull word y) same (payload_takes word x.0 x.1)
 
     go : ((word ≡ codes "null") × (None ≡ value)) ⊎ ((payload_of word >>= some_payload) ≡ Ok value) → IsPayloadOrNull word value
     go (inl h) = subst (λ (y : Option Payload). IsPayloadOrNull word y) h.1 h.0
@@ -180,7 +168,9 @@ null_is_no_data = refl
 
 null_again : (word : List ℕ) (value : Option Payload) → IsPayloadOrNull word value → cond (bytes_eq word (codes "null")) (Ok None) (payload_of word >>= some_payload) ≡ Ok value
 null_again word None h = rw (is_keyword word (codes "null") h) refl
-null_again word (Some p) h = rw (not_keyword payload_of word (codes "null") p fault.Data (bytes_eq word (codes "null")) refl h null_is_no_data, h) refl
+null_again word (Some p) h =
+    let e : payload_of word ≡ Ok p = payload_again word p h in
+    rw (not_keyword payload_of word (codes "null") p fault.Data (bytes_eq word (codes "null")) refl e null_is_no_data, e) refl
 
 abbrev one_buffer : DrawBuffer → Option DrawBuffer
 one_buffer b = Some b
@@ -219,7 +209,7 @@ read_takes flag word value e = flag_takes word value e
 read_takes switch word value e = table_takes switches word value e
 read_takes handle word value e = one_number 1 65535 word value e
 read_takes handle_or_zero word value e = one_number 0 65535 word value e
-read_takes payload word value e = e
+read_takes payload word value e = payload_takes word value e
 read_takes payload_or_null word value e = null_takes word value e
 read_takes pixel_source word value e = source_takes word value e
 read_takes pixel_destination word value e = destination_takes word value e
@@ -253,7 +243,7 @@ read_again flag word value h = flag_again word value h
 read_again switch word value h = table_again switches word value refl h
 read_again handle word value h = number_read 1 65535 word value (omega arith) h
 read_again handle_or_zero word value h = number_read 0 65535 word value (omega arith) h
-read_again payload word value h = h
+read_again payload word value h = payload_again word value h
 read_again payload_or_null word value h = null_again word value h
 read_again pixel_source word value h = source_again word value h
 read_again pixel_destination word value h = destination_again word value h
@@ -263,9 +253,6 @@ read_again filter word value h = table_again filters word value refl h
 read_again condition word value h = table_again conditions word value refl h
 
 -- ---- the words of a call
-
-abbrev pub kept : {A : Type 0} → A → Result A Fault
-kept x = Ok x
 
 abbrev made_call : (word : CallWord) → Arguments (form word).positions → Result Call Fault
 made_call word values = Ok ((form word).call values)
@@ -284,9 +271,6 @@ and_others p ps first = arguments ps first.1 >>= λ others. Ok (first.0, others)
 
 abbrev paired : (p : Position) (ps : List Position) → Meaning p → Arguments ps → Result (Arguments (p ∷ ps)) Fault
 paired p ps value others = Ok (value, others)
-
-pub ok_is : {A : Type 0} (x y : A) → kept x ≡ kept y → x ≡ y
-ok_is x y e = cc
 
 -- what is read of the first word, and then of the others
 then_others : (p : Position) (ps : List Position) (words left : List (List ℕ)) (value : Meaning p) (values : Arguments (p ∷ ps)) → (take_first p words >>= and_others p ps) ≡ Ok values → take_first p words ≡ Ok (value, left)

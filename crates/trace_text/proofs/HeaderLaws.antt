@@ -15,7 +15,8 @@ use Rattle.trace_text.specs.Reading.{thread_numbers}
 use Rattle.trace_text.specs.Traces.{thread_text}
 use Rattle.trace_words.proofs.NumberLaws.{model}
 use Rattle.trace_text.proofs.WordLaws.{decimal_is_decimal}
-use Rattle.trace_text.proofs.LineLaws.{then_some, some_is}
+use Rattle.trace_text.proofs.Steps.{then_some}
+use Rattle.trace_text.proofs.ByteLaws.{byte_takes, byte_again, digits_without}
 
 abbrev Parts : Type 0
 Parts = List ℕ × List ℕ
@@ -23,42 +24,6 @@ Parts = List ℕ × List ℕ
 cond_none : {A : Type 0} (b : Bool) (o : Option A) (y : A) → cond b o None ≡ Some y → (b ≡ true) × (o ≡ Some y)
 cond_none true o y e = (refl, e)
 cond_none false o y e = absurd cc
-
-is_other : (b : Bool) → not b ≡ true → b ≡ false
-is_other true e = absurd cc
-is_other false e = refl
-
-abbrev onto_front : ℕ → Parts → Option Parts
-onto_front c parts = Some (c ∷ parts.0, parts.1)
-
-byte_takes : (byte : ℕ) (text : List ℕ) (parts : Parts) → at_byte byte text ≡ Some parts → text ≡ parts.0 ++ byte ∷ parts.1
-unfolding at_byte
-byte_takes byte [] parts e = absurd cc
-byte_takes byte (c ∷ cs) parts e = here byte c cs parts (eqb c byte) refl (λ x h. byte_takes byte cs x h) e
-  where
-    here : (byte c : ℕ) (cs : List ℕ) (parts : Parts) (b : Bool) → eqb c byte ≡ b → ((x : Parts) → at_byte byte cs ≡ Some x → cs ≡ x.0 ++ byte ∷ x.1) → cond b (Some ([], cs)) (option_and_then (onto_front c) (at_byte byte cs)) ≡ Some parts → c ∷ cs ≡ parts.0 ++ byte ∷ parts.1
-    here byte c cs parts true is later e =
-        subst (λ (x : Parts). c ∷ cs ≡ x.0 ++ byte ∷ x.1) (some_is ([], cs) parts e) (ap (λ (d : ℕ). d ∷ cs) (eqb-true c byte is))
-    here byte c cs parts false is later e =
-        let a = then_some (onto_front c) (at_byte byte cs) parts e in
-        subst (λ (x : Parts). c ∷ cs ≡ x.0 ++ byte ∷ x.1) (some_is (c ∷ a.0.0, a.0.1) parts a.2) (ap (λ (r : List ℕ). c ∷ r) (later a.0 a.1))
-
-byte_again : (byte : ℕ) (word rest : List ℕ) → list_all (λ c. not (eqb c byte)) word ≡ true → at_byte byte (word ++ byte ∷ rest) ≡ Some (word, rest)
-unfolding at_byte
-byte_again byte [] rest h = rw (eq-eqb byte byte refl) refl
-byte_again byte (c ∷ cs) rest h =
-    let p = and_parts (not (eqb c byte)) (list_all (λ d. not (eqb d byte)) cs) h in
-    rw (is_other (eqb c byte) p.0, byte_again byte cs rest p.1) refl
-
-digit_no_space : (c : ℕ) (b : Bool) → eqb c 32 ≡ b → is_ascii_digit c ≡ true → not b ≡ true
-digit_no_space c true is digit = let no_digit : is_ascii_digit c ≡ false = ap is_ascii_digit (eqb-true c 32 is) in absurd cc
-digit_no_space c false is digit = refl
-
-digits_no_space : (word : List ℕ) → list_all is_ascii_digit word ≡ true → list_all (λ c. not (eqb c 32)) word ≡ true
-digits_no_space [] h = refl
-digits_no_space (c ∷ cs) h =
-    let p = and_parts (is_ascii_digit c) (list_all is_ascii_digit cs) h in
-    and_from (not (eqb c 32)) (list_all (λ d. not (eqb d 32)) cs) (digit_no_space c (eqb c 32) refl p.0) (digits_no_space cs p.1)
 
 same_text : (xs ys : List ℕ) → bytes_eq xs ys ≡ true → xs ≡ ys
 same_text xs ys e = (bytes_eq-Decides xs ys).0 e
@@ -92,7 +57,7 @@ unfolding thread_numbers
 numbers_again n g n_small g_small =
     rw (
       byte_again 32 (codes "thread") (decimal n ++ 32 ∷ (codes "group" ++ 32 ∷ decimal g)) refl,
-      byte_again 32 (decimal n) (codes "group" ++ 32 ∷ decimal g) (digits_no_space (decimal n) (digits_decimal model n n_small)),
+      byte_again 32 (decimal n) (codes "group" ++ 32 ∷ decimal g) (digits_without 32 refl (decimal n) (digits_decimal model n n_small)),
       byte_again 32 (codes "group") (decimal g) refl,
       decimal_is_decimal n n_small,
       decimal_is_decimal g g_small,

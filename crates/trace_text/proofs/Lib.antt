@@ -1,6 +1,9 @@
 pub mod Runs
 pub mod ReadingLaws
+pub mod Steps
 pub mod WordLaws
+pub mod ByteLaws
+pub mod PayloadLaws
 pub mod CallLaws
 pub mod LineLaws
 pub mod SpacingLaws

@@ -20,17 +20,8 @@ use Rattle.trace_text.specs.Reading.{Plan, State, with_line, is_owned, thread_of
 use Rattle.trace_text.specs.Spelling.{StandsFor, SpelledCall}
 use Rattle.trace_text.specs.Traces.{IsAfter, after_words, IsCallLine}
 use Rattle.trace_text.proofs.WordLaws.{meaning_takes, meaning_again, decimal_takes, decimal_again}
-use Rattle.trace_text.proofs.CallLaws.{bind_ok, or_fault_some, kept, ok_is, call_takes, call_again}
-
-pub then_some : {A B : Type 0} (f : A → Option B) (o : Option A) (y : B) → option_and_then f o ≡ Some y → (x : A) × (o ≡ Some x) × (f x ≡ Some y)
-then_some f None y e = absurd cc
-then_some f (Some x) y e = (x, refl, e)
-
-abbrev pub kept_some : {A : Type 0} → A → Option A
-kept_some x = Some x
-
-pub some_is : {A : Type 0} (x y : A) → kept_some x ≡ kept_some y → x ≡ y
-some_is x y e = cc
+use Rattle.trace_text.proofs.Steps.{bind_ok, or_fault_some, then_some, kept, ok_is, some_is}
+use Rattle.trace_text.proofs.CallLaws.{call_takes, call_again}
 
 -- ---- the thread
 

@@ -19,11 +19,11 @@ use Rattle.trace_words.specs.Numbers.{decimal_of}
 use Rattle.trace_text.specs.Reading.{GivesTrace, plan, Plan, State, Place, at_line, at_start, passed, group_of, thread_numbers, header_line, call_line, body_line, in_phase, line_after, or_place, lines_after, at_end, and_end, trace_of, is_skipped, is_text}
 use Rattle.trace_text.specs.Traces.{IsBodyLine, IsThreadLine, IsPhaseLine, IsLine, AreLines, Spells}
 use Rattle.trace_text.proofs.WordLaws.{decimal_takes, decimal_again}
-use Rattle.trace_text.proofs.CallLaws.{bind_ok, or_fault_some, kept, ok_is}
+use Rattle.trace_text.proofs.Steps.{bind_ok, or_fault_some, then_some, kept, ok_is}
 use Rattle.trace_text.proofs.SpacingLaws.{spaced_takes, spaced_again}
 use Rattle.trace_text.specs.Traces.{thread_text}
 use Rattle.trace_text.proofs.HeaderLaws.{numbers_take, numbers_again}
-use Rattle.trace_text.proofs.LineLaws.{then_some, call_line_takes, call_line_again}
+use Rattle.trace_text.proofs.LineLaws.{call_line_takes, call_line_again}
 
 abbrev no_state : Result State Fault
 no_state = Err fault.Word

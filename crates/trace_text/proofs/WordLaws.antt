@@ -15,6 +15,7 @@ use Rattle.trace_words.specs.Numbers.{is_decimal, decimal_of, number_of, signed_
 use Rattle.trace_words.specs.Tables.{meaning}
 use Rattle.trace_text.specs.Spelling.{StandsFor, IsNumber, IsSigned}
 use Rattle.trace_words.proofs.NumberLaws.{model}
+use Rattle.trace_text.proofs.Steps.{map_some}
 
 -- ---- numbers
 
@@ -134,10 +135,6 @@ meaning_again (entry ∷ others) word x d (inr later) =
     later_word entry others word x (bytes_eq entry.0 word) refl (not_true _ p.0) later (meaning_again others word x p.1 later)
 
 -- ---- signed numbers
-
-map_some : {A B : Type 0} (f : A → B) (o : Option A) (y : B) → option_map f o ≡ Some y → (x : A) × (o ≡ Some x) × (f x ≡ y)
-map_some f None y e = absurd cc
-map_some f (Some x) y e = (x, refl, cc)
 
 first_byte : (word : List ℕ) (c : ℕ) (cs : List ℕ) → c ∷ cs ≡ word → get_or word 0 0 ≡ c
 first_byte word c cs e = sym (ap (λ (w : List ℕ). get_or w 0 0) e)

@@ -1,8 +1,10 @@
 -- How values are spelled as words, apart from how they are read.
-use Rattle.std.specs.Prelude.{◌≡◌, ℕ, suc, ℤ, pos, negsuc, ◌<◌, ◌≤◌, ◌⊎◌, List, [], ◌∷◌, Bool, true, false, Option, Some, None, Ok, codes}
-use Rattle.std.specs.Fmt.{decimal}
+use Rattle.std.specs.Prelude.{◌≡◌, ℕ, suc, ◌/◌, ◌%◌, nat_lt, ◌++◌, ℤ, pos, negsuc, ◌<◌, ◌≤◌, ◌⊎◌, List, [], ◌∷◌, Bool, true, false, Option, Some, None, Ok, codes}
+use Rattle.std.specs.List.{list_all, flat_map}
+use Rattle.std.specs.Fmt.{decimal, digit_glyph}
 use Rattle.gl_calls.specs.declared.call.Call.{Call}
 use Rattle.gl_calls.specs.declared.payload.Payload.{Payload}
+use Rattle.gl_calls.specs.declared.payload.Payload.TheVariants.{Literal, Ramp}
 use Rattle.gl_calls.specs.declared.call.PixelSource.{PixelSource}
 use Rattle.gl_calls.specs.declared.call.PixelSource.TheVariants as source
 use Rattle.gl_calls.specs.declared.call.PixelDestination.{PixelDestination}
@@ -12,7 +14,7 @@ use Rattle.gl_calls.specs.declared.call.WaitEnd.TheVariants as wait
 use Rattle.trace_text.specs.declared.call_word.CallWord.{CallWord}
 use Rattle.gl_calls.specs.declared.words.DrawBuffer.{DrawBuffer}
 use Rattle.trace_words.specs.Tables.{buffers, framebuffers, bind_targets, object_kinds, usages, formats, pixel_formats, pixel_types, points, attached_objects, draw_buffers, parameters, limits, switches, masks, filters, conditions}
-use Rattle.trace_words.specs.Data.{payload_of, access_of}
+use Rattle.trace_words.specs.Data.{access_of}
 use Rattle.trace_words.specs.Positions.{Position, Meaning, absent, buffer, framebuffer, bind_target, object_kind, usage, format, pixel_format, pixel_type, point, attached, draw_buffer, draw_buffer_if_any, access, parameter, limit, u32, u64, i32, i64, flag, switch, handle, handle_or_zero, payload, payload_or_null, pixel_source, pixel_destination, wait_end, mask, filter, condition}
 use Rattle.trace_text.specs.Grammar.{Arguments, form}
 
@@ -29,8 +31,21 @@ abbrev pub IsSigned : ℕ → List ℕ → ℤ → Type 0
 IsSigned bound word (pos n) = (word ≡ decimal n) × (n < bound)
 IsSigned bound word (negsuc n) = (word ≡ 45 ∷ decimal (suc n)) × (n < bound)
 
+-- a byte as two digits in lower case
+abbrev pub byte_digits : ℕ → List ℕ
+byte_digits byte = digit_glyph false (byte / 16) ∷ digit_glyph false (byte % 16) ∷ []
+
+abbrev pub AreBytes : List ℕ → Type 0
+AreBytes bytes = list_all (λ b. nat_lt b 256) bytes ≡ true
+
+-- The word stands for data: `-` for no bytes, the digits of each byte, or `%len,start,step`.
+abbrev pub IsPayload : List ℕ → Payload → Type 0
+IsPayload word (Literal []) = word ≡ codes "-"
+IsPayload word (Literal (b ∷ bs)) = AreBytes (b ∷ bs) × (word ≡ flat_map byte_digits (b ∷ bs))
+IsPayload word (Ramp len start step) = (len ≤ 67108864) × (start ≤ 255) × (step ≤ 255) × (word ≡ 37 ∷ (decimal len ++ 44 ∷ (decimal start ++ 44 ∷ decimal step)))
+
 abbrev pub IsSource : List ℕ → PixelSource → Type 0
-IsSource word (source.Client p) = payload_of word ≡ Ok p
+IsSource word (source.Client p) = IsPayload word p
 IsSource word (source.Offset n) = (offset : List ℕ) × (word ≡ 43 ∷ offset) × IsNumber 0 18446744073709551615 offset n
 
 abbrev pub IsDestination : List ℕ → PixelDestination → Type 0
@@ -48,7 +63,7 @@ flag_number false = 0
 
 abbrev pub IsPayloadOrNull : List ℕ → Option Payload → Type 0
 IsPayloadOrNull word None = word ≡ codes "null"
-IsPayloadOrNull word (Some p) = payload_of word ≡ Ok p
+IsPayloadOrNull word (Some p) = IsPayload word p
 
 -- the word of a buffer that is given
 abbrev pub IsGiven : List ℕ → Option DrawBuffer → Type 0
@@ -80,7 +95,7 @@ Spelled flag word value = IsNumber 0 1 word (flag_number value)
 Spelled switch word value = StandsFor switches word value
 Spelled handle word value = IsNumber 1 65535 word value
 Spelled handle_or_zero word value = IsNumber 0 65535 word value
-Spelled payload word value = payload_of word ≡ Ok value
+Spelled payload word value = IsPayload word value
 Spelled payload_or_null word value = IsPayloadOrNull word value
 Spelled pixel_source word value = IsSource word value
 Spelled pixel_destination word value = IsDestination word value
