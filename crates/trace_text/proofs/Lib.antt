@@ -6,6 +6,7 @@ pub mod ByteLaws
 pub mod PayloadLaws
 pub mod CallLaws
 pub mod LineLaws
+pub mod FeedLaws
 pub mod SpacingLaws
 pub mod HeaderLaws
 pub mod TextLaws

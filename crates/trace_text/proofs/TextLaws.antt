@@ -20,6 +20,7 @@ use Rattle.trace_text.specs.Reading.{GivesTrace, plan, Plan, State, Place, at_li
 use Rattle.trace_text.specs.Traces.{IsBodyLine, IsThreadLine, IsPhaseLine, IsLine, AreLines, Spells}
 use Rattle.trace_text.proofs.WordLaws.{decimal_takes, decimal_again}
 use Rattle.trace_text.proofs.Steps.{bind_ok, or_fault_some, then_some, kept, ok_is}
+use Rattle.trace_text.proofs.FeedLaws.{lines_take as feeds_take, lines_again as feeds_again}
 use Rattle.trace_text.proofs.SpacingLaws.{spaced_takes, spaced_again}
 use Rattle.trace_text.specs.Traces.{thread_text}
 use Rattle.trace_text.proofs.HeaderLaws.{numbers_take, numbers_again}
@@ -218,12 +219,12 @@ text_takes text threads e = go (leb (length text) 67108864) refl e
     go : (b : Bool) → leb (length text) 67108864 ≡ b → cond b (and_end (lines_after at_start (lines_of text))) (Err (at_line 0 fault.TooLong)) ≡ Ok threads → Spells text threads
     go true fits e =
         let a = run_takes (lines_after at_start (lines_of text)) threads e in
-        record { last = a.0; fits = leb-true (length text) 67108864 fits; lines = lines_take at_start a.0 (lines_of text) a.1; ended = a.2; threads_are = a.3 }
+        record { lines = lines_of text; last = a.0; fits = leb-true (length text) 67108864 fits; is_text = feeds_take text; are_lines = lines_take at_start a.0 (lines_of text) a.1; ended = a.2; threads_are = a.3 }
     go false fits e = absurd cc
 
 pub text_again : (text : List ℕ) (threads : List Plan) → Spells text threads → trace_of text ≡ Ok threads
 unfolding trace_of
-text_again text threads h = rw (le-leb (length text) 67108864 h.fits, lines_again at_start h.last (lines_of text) h.lines, h.ended, h.threads_are) refl
+text_again text threads h = rw (le-leb (length text) 67108864 h.fits, feeds_again h.lines text h.is_text, lines_again at_start h.last h.lines h.are_lines, h.ended, h.threads_are) refl
 
 pub given_spells : (text : List ℕ) (r : Result Trace ParseStop) → GivesTrace r (trace_of text) → IfOk r (λ trace. Spells text (map plan trace.threads.items))
 given_spells text (Ok trace) given = text_takes text (map plan trace.threads.items) given

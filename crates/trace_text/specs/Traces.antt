@@ -5,8 +5,7 @@ use Rattle.gl_calls.specs.declared.call.Call.{Call}
 use Rattle.trace_text.specs.declared.call_word.CallWord.{CallWord}
 use Rattle.trace_text.specs.declared.phase.Phase.{Phase}
 use Rattle.trace_text.specs.declared.phase.Phase.TheVariants as phase
-use Rattle.trace_words.specs.Lexing.{lines_of}
-use Rattle.trace_text.specs.Spacing.{IsSpaced}
+use Rattle.trace_text.specs.Spacing.{IsText, IsSpaced}
 use Rattle.trace_text.specs.CallWords.{call_words}
 use Rattle.trace_text.specs.Limits.{has_its_length, is_in_profile, cost_of}
 use Rattle.trace_text.specs.Reading.{Plan, State, at_start, passed, with_line, is_skipped, is_text}
@@ -72,8 +71,10 @@ AreLines s (line ∷ lines) t = (middle : State) × IsLine s line middle × AreL
 
 -- The text spells the threads: its lines lead from the start to the end.
 pub record Spells (text : List ℕ) (threads : List Plan) : Type 0 where
+  pub lines : List (List ℕ)
   pub last : State
   pub fits : length text ≤ 67108864
-  pub lines : AreLines at_start (lines_of text) last
+  pub is_text : IsText text lines
+  pub are_lines : AreLines at_start lines last
   pub ended : last.phase ≡ phase.Ended
   pub threads_are : last.threads ≡ threads
