@@ -1,5 +1,5 @@
 -- What a call may ask for, and what it costs.
-use Rattle.std.specs.Prelude.{ℕ, ℤ, pos, negsuc, ◌*◌, min, Bool, true, false, ◌==◌, nat_le, length, Some}
+use Rattle.std.specs.Prelude.{ℕ, ℤ, pos, negsuc, ◌*◌, min, Bool, true, false, ◌==◌, nat_le, Some}
 use Rattle.gl_calls.specs.Words.{payload_len}
 use Rattle.gl_calls.specs.declared.call.PixelSource.{PixelSource}
 use Rattle.gl_calls.specs.declared.call.PixelSource.TheVariants as source

@@ -1,5 +1,5 @@
 -- How values are spelled as words, apart from how they are read.
-use Rattle.std.specs.Prelude.{◌≡◌, ℕ, suc, ◌/◌, ◌%◌, nat_lt, ◌++◌, ℤ, pos, negsuc, ◌<◌, ◌≤◌, ◌⊎◌, List, [], ◌∷◌, Bool, true, false, Option, Some, None, Ok, codes}
+use Rattle.std.specs.Prelude.{◌≡◌, ℕ, suc, ◌/◌, ◌%◌, nat_lt, ◌++◌, ℤ, pos, negsuc, ◌<◌, ◌≤◌, ◌⊎◌, List, [], ◌∷◌, Bool, true, false, Option, Some, None, codes}
 use Rattle.std.specs.List.{list_all, flat_map}
 use Rattle.std.specs.Fmt.{decimal, digit_glyph}
 use Rattle.gl_calls.specs.declared.call.Call.{Call}
