@@ -1,0 +1,12 @@
+pub mod Runs
+pub mod ReadingLaws
+pub mod Steps
+pub mod WordLaws
+pub mod ByteLaws
+pub mod PayloadLaws
+pub mod CallLaws
+pub mod LineLaws
+pub mod FeedLaws
+pub mod SpacingLaws
+pub mod HeaderLaws
+pub mod TextLaws

@@ -1,0 +1,14 @@
+pub mod CallWords
+pub mod Grammar
+pub mod Limits
+pub mod Reading
+pub mod Spelling
+pub mod Spacing
+pub mod Traces
+pub use Rattle.trace_words.specs.Lexing
+pub use Rattle.trace_words.specs.Faults
+pub use Rattle.trace_words.specs.Tables
+pub use Rattle.trace_words.specs.Numbers
+pub use Rattle.trace_words.specs.Data
+pub use Rattle.trace_words.specs.Positions
+pub use Rattle.reply_text.specs.Replies

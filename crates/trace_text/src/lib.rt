@@ -1,0 +1,19 @@
+// A trace of calls as a text, and the replies to it as a text.
+//
+// `parse` gives the trace that a text spells, or its first fault: the relation `Spells` of specs/Traces says what a text spells, and
+// `trace_of` of specs/Reading which fault comes on which line. docs/trace-format.md has the format in words.
+#![tactic(auto)]
+
+mod call_word;
+mod calls;
+mod limits;
+mod parsing;
+mod phase;
+mod reader;
+mod stop;
+mod trace;
+
+pub use parsing::parse;
+pub use reply_text::{Counts, GroupHistory, Tail, render};
+pub use stop::ParseStop;
+pub use trace::{Line, ThreadPlan, Trace};
