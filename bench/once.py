@@ -2,12 +2,8 @@
 """Times runs of traces of growing length, and of texts of the greatest length. Run it after `rt run` in crates/angle_run.
 
 The gate does not run it."""
-import os
-import subprocess
-import tempfile
-import time
+from timing import program, repeated, time_texts
 
-PROGRAM = os.path.join(os.path.dirname(__file__), "..", "crates", "angle_run", "out", "angle_run")
 OPENING = b"angle-trace 1\nthread 0 group 0\nbegin\n0 ecreate 1\n0 ecurrent 1\n"
 
 
@@ -31,11 +27,6 @@ def one_store(size):
     yield b"\n0 bmap copy_read 0 %d r\n0 mread copy_read 0 %d\n0 bunmap copy_read\nend\n" % (size, size)
 
 
-def repeated(first, byte, count):
-    yield first
-    yield from (byte * 1000 for _ in range(count // 1000))
-
-
 TEXTS = [
     ("10,000 calls", calls(10_000)),
     ("100,000 calls", calls(100_000)),
@@ -45,14 +36,4 @@ TEXTS = [
     ("67 MB, one line of spaces", repeated(OPENING, b" ", 67_000_000)),
 ]
 
-for name, chunks in TEXTS:
-    with tempfile.TemporaryFile() as source:
-        for chunk in chunks:
-            source.write(chunk)
-        size = source.tell()
-        source.seek(0)
-        start = time.monotonic()
-        process = subprocess.Popen([PROGRAM, "once", "--seed", "0"], stdin=source, stdout=subprocess.DEVNULL)
-        _, status, usage = os.wait4(process.pid, 0)
-        seconds = time.monotonic() - start
-    print(f"{name}: {size / 1e6:.1f} MB of text, {seconds:.2f} s, {usage.ru_maxrss / 1e3:.0f} MB, status {os.waitstatus_to_exitcode(status)}")
+time_texts([program("angle_run"), "once", "--seed", "0"], TEXTS)

@@ -3,12 +3,8 @@
 after `rt run` in crates/text_bench.
 
 The gate does not run it."""
-import os
-import subprocess
-import tempfile
-import time
+from timing import program, repeated, time_texts
 
-PROGRAM = os.path.join(os.path.dirname(__file__), "..", "crates", "text_bench", "out", "text_bench")
 MOST = 67_108_864
 OPENING = b"angle-trace 1\n" + b"".join(b"thread %d group 0\n" % t for t in range(16)) + b"begin\n"
 
@@ -28,13 +24,6 @@ def one_store(size):
     yield b"\nend\n"
 
 
-def repeated(first, byte, last):
-    """So many bytes that the text is just short of the greatest."""
-    yield first
-    yield from (byte * 1000 for _ in range((MOST - len(first) - len(last)) // 1000))
-    yield last
-
-
 TEXTS = [
     ("10,000 calls", calls(10_000, b"bdata copy_read 8 static_draw 0102030405060708")),
     ("100,000 calls", calls(100_000, b"bdata copy_read 8 static_draw 0102030405060708")),
@@ -42,20 +31,9 @@ TEXTS = [
     ("1,000,000 short calls", calls(1_000_000, b"flush")),
     ("1,048,576 calls of 60 bytes", calls(1_048_576, b"bdata copy_read 13 static_draw 01020304050607080910111213")),
     ("data of 33,000,000 bytes", one_store(33_000_000)),
-    ("line feeds", repeated(OPENING, b"\n", b"end\n")),
-    ("one line of spaces", repeated(OPENING, b" ", b"\nend\n")),
-    ("one number", repeated(OPENING + b"0 bind copy_read ", b"1", b"\nend\n")),
+    ("line feeds", repeated(OPENING, b"\n", MOST - 1000, b"end\n")),
+    ("one line of spaces", repeated(OPENING, b" ", MOST - 1000, b"\nend\n")),
+    ("one number", repeated(OPENING + b"0 bind copy_read ", b"1", MOST - 1000, b"\nend\n")),
 ]
 
-for name, chunks in TEXTS:
-    with tempfile.TemporaryFile() as source:
-        for chunk in chunks:
-            source.write(chunk)
-        size = source.tell()
-        source.seek(0)
-        start = time.monotonic()
-        process = subprocess.Popen([PROGRAM], stdin=source, stdout=subprocess.PIPE)
-        verdict = process.stdout.read().decode().strip()
-        _, _, usage = os.wait4(process.pid, 0)
-        seconds = time.monotonic() - start
-    print(f"{name}: {size / 1e6:.1f} MB of text, {verdict}, {seconds:.2f} s, {usage.ru_maxrss / 1e3:.0f} MB")
+time_texts([program("text_bench")], TEXTS, shown=True)
