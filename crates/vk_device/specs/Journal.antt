@@ -104,13 +104,3 @@ MayFollowAll before (entry ∷ entries) = MayFollow before entry × MayFollowAll
 -- each object is created once and destroyed once at most, and touched only in between
 abbrev pub IsClean : List Logged → Type 0
 IsClean journal = MayFollowAll [] journal
-
--- the kinds that an object may have
-abbrev pub IsKind : Kind → Type 0
-IsKind (Buffer size) = Unit {0}
-IsKind (Image format width height) = (format < 12) × (1 ≤ width) × (width ≤ 2048) × (1 ≤ height) × (height ≤ 2048)
-
--- the bytes of an object are as many as its kind has
-abbrev pub HasSizeOf : Kind → ℕ → Type 0
-HasSizeOf (Buffer size) len = len ≡ size
-HasSizeOf (Image format width height) len = Unit {0}

@@ -13,3 +13,10 @@ pub enum Logged {
     Fetched { id: HandleId, at: u64, bytes: Bytes },
     Destroyed { id: HandleId },
 }
+
+/// What a turn did: it executed this node of this batch, or none was left.
+#[derive(Clone, Copy, Debug, PartialEq, Eq)]
+pub enum Turned {
+    Ran { batch: u64, node: u32 },
+    Idle,
+}

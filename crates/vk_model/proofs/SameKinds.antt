@@ -47,5 +47,8 @@ module _ (kinds kinds' : ℕ → Kind) where
       ap (after_all kinds log) (fun_ext (λ id. fun_ext (λ i. ap (λ v. cond (is_written x id i) v (c id i)) (item_same x (λ q n id e. same 0 q n id (ap Some e)) (found x c) id i))))
       ∙ all_same log (λ k q n id at. same (suc k) q n id at) (apply kinds' x c)
 
+pub apply_same_kinds : (kinds kinds' : ℕ → Kind) (x : Item) → ((q : ℕ) (n : Node) (id : ℕ) → x ≡ Command q n → touches_object n id ≡ true → kinds id ≡ kinds' id) → (c : Contents) → apply kinds x c ≡ apply kinds' x c
+apply_same_kinds kinds kinds' x same c = fun_ext (λ id. fun_ext (λ i. ap (λ v. cond (is_written x id i) v (c id i)) (item_same kinds kinds' x same (found x c) id i)))
+
 pub eval_same_kinds : (kinds kinds' : ℕ → Kind) (log : List Item) → ((k q : ℕ) (n : Node) (id : ℕ) → slice_get log k ≡ Some (Command q n) → touches_object n id ≡ true → kinds id ≡ kinds' id) → eval kinds log ≡ eval kinds' log
 eval_same_kinds kinds kinds' log same = all_same kinds kinds' log same nothing

@@ -3,7 +3,7 @@ ghost use Rattle.std.specs.Prelude.{◌≡◌, ℕ, ◌<◌, ◌+◌, true, List
 ghost use Rattle.cells.specs.Contents.{cells, Agrees, AgreesAt};
 ghost use Rattle.vk_types.specs.declared.ops.Node.{Node};
 ghost use Rattle.vk_model.specs.Cells.{op_cell};
-ghost use Rattle.vk_model.specs.Log.{Command};
+ghost use Rattle.vk_model.specs.Log.{Command, touches_object};
 ghost use Rattle.vk_model.specs.Meaning.{is_written};
 ghost use Rattle.vk_types.specs.declared.handles.Kind.{Kind};
 ghost use Rattle.vk_model.specs.Cells.{Contents};
@@ -27,6 +27,16 @@ pub fn device_bytes_agree()
     ensures reads { (kinds : ℕ → Kind) (log : List Item) (order : List ℕ) (id : ℕ) (bytes : Contents) →
         IsSound log → IsPermitted log order → IsSettled log order id → ContentsAgree bytes (executed kinds log order) →
         (i : ℕ) → eval kinds log id i < 256 → bytes id i ≡ eval kinds log id i }
+{}
+
+/// Only the kinds of the objects that an item touches count.
+pub fn only_touched_kinds_count()
+    ensures item { (kinds kinds' : ℕ → Kind) (x : Item) →
+        ((q : ℕ) (n : Node) (id : ℕ) → x ≡ Command q n → touches_object n id ≡ true → kinds id ≡ kinds' id) →
+        (c : Contents) → apply kinds x c ≡ apply kinds' x c }
+    ensures log { (kinds kinds' : ℕ → Kind) (log : List Item) →
+        ((k q : ℕ) (n : Node) (id : ℕ) → slice_get log k ≡ Some (Command q n) → touches_object n id ≡ true → kinds id ≡ kinds' id) →
+        eval kinds log ≡ eval kinds' log }
 {}
 
 /// Bytes agree with a content as a list exactly where they agree with it at each place.

@@ -19,7 +19,8 @@ mod queue_laws;
 mod swap_laws;
 
 pub use agreement_laws::{
-    agreement_is_kept, device_bytes_agree, node_is_executed, places_agree_as_lists,
+    agreement_is_kept, device_bytes_agree, node_is_executed, only_touched_kinds_count,
+    places_agree_as_lists,
 };
 pub use growth_laws::{
     fenced_log_grows, fenced_log_is_sound, sound_log_grows, trackers_keep_logs_sound,
