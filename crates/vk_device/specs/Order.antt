@@ -117,3 +117,8 @@ pub record IsHandedOver (log : List Item) (k id : ℕ) : Type 0 where
 -- each node that writes into the range is followed by such a barrier
 abbrev pub IsVisible : List Item → (id start end : ℕ) → Type 0
 IsVisible log id start end = (k q : ℕ) (n : Node) → slice_get log k ≡ Some (Command q n) → writes_into n id start end ≡ true → IsHandedOver log k id
+
+-- no batch was accepted so far
+pub record HasNoBatch (journal : List Logged) : Type 0 where
+  pub ran : AllRan journal
+  pub none : (k q : ℕ) (n : Node) → slice_get (log_of journal) k ≡ Some (Command q n) → ⊥

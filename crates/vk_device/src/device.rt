@@ -1,5 +1,5 @@
 // A device by its journal and the bytes of its objects.
-ghost use Rattle.std.specs.Prelude.{◌≡◌, ◌≢◌, ◌+◌, ◌<◌, ℕ, List, All, ◌++◌, [], ◌∷◌, length, IfOk, OnOk, OnErr, IsSome, Err};
+ghost use Rattle.std.specs.Prelude.{◌≡◌, ◌≢◌, ◌+◌, ◌<◌, ◌^◌, ℕ, List, All, ◌++◌, [], ◌∷◌, length, IfOk, OnOk, OnErr, IsSome, Err};
 ghost use Rattle.cells.specs.Contents.{part, overwritten};
 ghost use Rattle.vk_types.specs.declared.stops.Stop.TheVariants.{Memory};
 ghost use Rattle.vk_model.specs.Fitting.{IsKind, NodeFits, size_of};
@@ -42,6 +42,7 @@ pub trait Device {
         requires inside { ReachesTo (kind_of (journal self.old) id.0) (at + length bytes.now) }
         requires settled { IsSettled (log_of (journal self.old)) (order_of (journal self.old)) id.0 }
         ensures logged { OnOk result (ChangesOnly journal bytes_of self.old self.new id.0 (Wrote id at bytes.now)) }
+        ensures short { OnOk result (at + length bytes.now < 2 ^ 64) }
         ensures written { OnOk result (bytes_of self.new id.0 ≡ overwritten (bytes_of self.old id.0) at bytes.now) }
         ensures err { OnErr result (ChangesNothing journal bytes_of self.old self.new) }
         ensures cause { HasCause (faults self.old) (faults self.new) result };

@@ -90,7 +90,7 @@ executed_longer kinds log more order permitted = places_longer kinds log more []
 
 -- The host writes
 
-touches_id_of : (n : Node) (id : ℕ) → touches_object n id ≡ true → (q : ℕ) → touches_id (Command q n) id ≡ true
+pub touches_id_of : (n : Node) (id : ℕ) → touches_object n id ≡ true → (q : ℕ) → touches_id (Command q n) id ≡ true
 touches_id_of n id e q = go (touches n) e
   where
     go : (ts : List Touch) → list_any (λ t. eqb t.id.0 id) ts ≡ true → list_any (λ r. eqb r.id id) (map (node_range n) ts) ≡ true

@@ -6,7 +6,7 @@ use Rattle.formats.specs.declared.format.Format.TheVariants.{R8ui, R8i, R16ui, R
 use Rattle.formats.specs.Texel.{bytes_per_texel}
 use Rattle.formats.specs.Components.{packed, expanded}
 use Rattle.vk_model.specs.Texels.{format_at, converted_texel}
-use Rattle.vk_objects.proofs.Parts.{overwritten-inside, overwritten-outside}
+use Rattle.vk_model.proofs.Parts.{overwritten-inside, overwritten-outside}
 use Rattle.vk_objects.proofs.ImageNodes.{texel_fits}
 use Rattle.vk_objects.proofs.PassSteps.{texel_some}
 use Rattle.vk_objects.proofs.Expanding.{texel_converted}

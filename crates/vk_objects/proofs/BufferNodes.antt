@@ -14,7 +14,7 @@ use Rattle.vk_model.specs.Meaning.{covers, is_written}
 use Rattle.vk_model.proofs.Copies.{covered_from}
 use Rattle.vk_objects.specs.declared.objects.Objects.{Objects}
 use Rattle.vk_objects.specs.Objects.{bytes_of, kinds_of, contents_of, SetsBytes, Rewrites, Executes}
-use Rattle.vk_objects.proofs.Parts.{overwritten-outside, overwritten-inside, length-overwritten, part-at, length-part}
+use Rattle.vk_model.proofs.Parts.{overwritten-outside, overwritten-inside, length-overwritten, part-at, length-part}
 use Rattle.vk_objects.proofs.Executing.{Writes, executes}
 
 -- a range of a buffer

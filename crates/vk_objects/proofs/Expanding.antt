@@ -11,7 +11,7 @@ use Rattle.std.proofs.lemmas.Grind.{get_or_default_zero}
 use Rattle.cells.specs.Contents.{UNDEFINED, cell_at, cells, part, overwritten}
 use Rattle.vk_model.specs.Cells.{all_defined, converted}
 use Rattle.vk_objects.specs.Rows.{HasRow}
-use Rattle.vk_objects.proofs.Parts.{overwritten-before, overwritten-inside, overwritten-after}
+use Rattle.vk_model.proofs.Parts.{overwritten-before, overwritten-inside, overwritten-after}
 use Rattle.vk_objects.proofs.RowSteps.{distributes}
 
 module _ (image : List ℕ) (small : (i : ℕ) → get_or image i 0 < 256) (at : ℕ) where

@@ -12,7 +12,7 @@ use Rattle.vk_model.specs.Cells.{place, texel_size, width_of, column_at, row_at,
 use Rattle.vk_objects.specs.declared.shapes.Shape.{Shape}
 use Rattle.vk_objects.specs.declared.shapes.Area.{Area}
 use Rattle.vk_objects.specs.Images.{kind_of_shape, rect_of, IsInside, HasAll, IsPainted, IsCleared, HasRows, AreWritten}
-use Rattle.vk_objects.proofs.Parts.{overwritten-inside, overwritten-outside, part-at, length-part}
+use Rattle.vk_model.proofs.Parts.{overwritten-inside, overwritten-outside, part-at, length-part}
 use Rattle.vk_objects.proofs.RowSteps.{distributes, first_rows, row_step, no_row}
 
 module _ (s : Shape) (a : Area) (inside : IsInside a s) (some : 0 < texel_size (kind_of_shape s)) where

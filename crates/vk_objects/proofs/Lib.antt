@@ -1,4 +1,3 @@
-pub mod Parts
 pub mod Executing
 pub mod BufferNodes
 pub mod RowSteps

@@ -11,7 +11,7 @@ use Rattle.vk_model.specs.Cells.{last_row, image_to_buffer, place, texel_size}
 use Rattle.vk_objects.specs.declared.shapes.Shape.{Shape}
 use Rattle.vk_objects.specs.declared.shapes.Area.{Area}
 use Rattle.vk_objects.specs.Images.{kind_of_shape, rect_of, IsInside, HasAll}
-use Rattle.vk_objects.proofs.Parts.{overwritten-before, overwritten-inside, overwritten-after, length-part, part-at}
+use Rattle.vk_model.proofs.Parts.{overwritten-before, overwritten-inside, overwritten-after, length-part, part-at}
 use Rattle.vk_objects.proofs.RowSteps.{in_row}
 use Rattle.vk_objects.proofs.ImageNodes.{row_fits}
 use Rattle.vk_objects.specs.Rows.{after_rows, row_byte, HasOutRows, HasRow}

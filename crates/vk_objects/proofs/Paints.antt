@@ -5,7 +5,7 @@ use Rattle.std.proofs.lemmas.Bool.{cases_Bool, ltb-true, ltb-false}
 use Rattle.std.proofs.lemmas.Nat.{mod-mul-add}
 use Rattle.cells.specs.Contents.{cell_at, overwritten}
 use Rattle.vk_objects.specs.Images.{IsPainted}
-use Rattle.vk_objects.proofs.Parts.{overwritten-before, overwritten-inside, overwritten-after}
+use Rattle.vk_model.proofs.Parts.{overwritten-before, overwritten-inside, overwritten-after}
 use Rattle.vk_objects.proofs.RowSteps.{distributes}
 
 pub none_painted : (old texel : List ℕ) (at : ℕ) → IsPainted old old at 0 texel

@@ -2,7 +2,7 @@ use Rattle.std.proofs.Common.{◌+◌, ◌≤◌, length, sym, ◌∙◌, ap, su
 use Rattle.cells.specs.Contents.{part}
 use Rattle.vk_model.specs.Cells.{place, texel_size}
 use Rattle.vk_objects.specs.Images.{kind_of_shape}
-use Rattle.vk_objects.proofs.Parts.{length-part}
+use Rattle.vk_model.proofs.Parts.{length-part}
 use Rattle.vk_objects.proofs.ImageNodes.{texel_fits}
 use Rattle.vk_objects.proofs.PassSteps.{texel_some}
 use Rattle.vk_objects.proofs.blits.texel_of.Goals as goal

@@ -2,7 +2,7 @@ use Rattle.std.proofs.Common.{◌≡◌, ◌+◌, ◌*◌, ◌<◌, ◌≤◌, l
 use Rattle.cells.specs.Contents.{part, overwritten}
 use Rattle.vk_model.specs.Cells.{place, texel_size}
 use Rattle.vk_objects.specs.Images.{kind_of_shape, rect_of, HasAll, AreWritten}
-use Rattle.vk_objects.proofs.Parts.{length-part}
+use Rattle.vk_model.proofs.Parts.{length-part}
 use Rattle.vk_objects.proofs.RowSteps.{first_rows}
 use Rattle.vk_objects.proofs.ImageNodes.{row_fits, rows_step}
 use Rattle.vk_objects.proofs.images.write_rows.Goals as goal

@@ -9,7 +9,7 @@ use Rattle.vk_model.specs.Texels.{expanded_texel}
 use Rattle.vk_model.specs.Cells.{place, texel_size, texel_to_buffer, converted}
 use Rattle.vk_objects.specs.Images.{kind_of_shape}
 use Rattle.vk_objects.specs.Rows.{HasRow}
-use Rattle.vk_objects.proofs.Parts.{length-part}
+use Rattle.vk_model.proofs.Parts.{length-part}
 use Rattle.vk_objects.proofs.ImageNodes.{texel_fits}
 use Rattle.vk_objects.proofs.PassSteps.{texel_some}
 use Rattle.vk_objects.proofs.Expanding.{texel_converted, row_more, expanded_len}
