@@ -55,6 +55,7 @@ module _ (old new : Objects) (n : Node) (id : ℕ) (bytes : List ℕ) (sets : Se
     agree = node_executed (kinds_of old) 0 n (contents_of old) (contents_of new) (λ other i. inside_all other i (same_or_not other id)) (λ other i. outside_all other i (same_or_not other id));
     kinds = λ other. kinds_all other (same_or_not other id);
     sizes = λ other. sizes_all other (same_or_not other id);
+    count = sets.count;
   }
 
 -- a node that writes a whole object
@@ -84,4 +85,5 @@ unchanged_executes old n agrees = record {
   agree = node_executed (kinds_of old) 0 n (contents_of old) (contents_of old) (λ id i w. agrees id i) (λ id i u. refl);
   kinds = λ id. refl;
   sizes = λ id. refl;
+  count = refl;
 }

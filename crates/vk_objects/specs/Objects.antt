@@ -1,6 +1,6 @@
 -- Live objects by their numbers, each with its kind and its bytes.
 use Rattle.std.specs.Prelude.{◌≡◌, ◌≢◌, ℕ, ◌<◌, ◌^◌, List, [], length, Option, Some, None, option_map, replicate, unwrap_or}
-use Rattle.std.specs.BTreeMap.{get}
+use Rattle.std.specs.BTreeMap.{get, btree_map_len}
 use Rattle.std.specs.Ordering.{nat_cmp}
 use Rattle.vk_types.specs.declared.handles.Kind.{Kind}
 use Rattle.vk_types.specs.declared.handles.Kind.TheVariants.{Buffer}
@@ -31,6 +31,10 @@ bytes_in (Some o) = o.bytes
 abbrev pub bytes_of : Objects → ℕ → List ℕ
 bytes_of objects id = bytes_in (object_at objects id)
 
+-- how many objects are live
+abbrev pub count_of : Objects → ℕ
+count_of objects = btree_map_len objects.map
+
 -- only this object is another one
 pub record SetsObject (old new : Objects) (id : ℕ) (object : Option Object) : Type 0 where
   pub here : object_at new id ≡ object
@@ -41,6 +45,7 @@ pub record SetsBytes (old new : Objects) (id : ℕ) (bytes : List ℕ) : Type 0 
   pub here : bytes_of new id ≡ bytes
   pub kind : kind_of new id ≡ kind_of old id
   pub others : (other : ℕ) → other ≢ id → object_at new other ≡ object_at old other
+  pub count : count_of new ≡ count_of old
 
 -- only this object has other bytes, as many as before
 pub record Rewrites (old new : Objects) (id : ℕ) : Type 0 where
@@ -76,3 +81,4 @@ pub record Executes (old new : Objects) (n : Node) : Type 0 where
   pub agree : ContentsAgree (contents_of new) (apply (kinds_of old) (Command 0 n) (contents_of old))
   pub kinds : (id : ℕ) → kind_of new id ≡ kind_of old id
   pub sizes : (id : ℕ) → length (bytes_of new id) ≡ length (bytes_of old id)
+  pub count : count_of new ≡ count_of old

@@ -1,11 +1,11 @@
 // Live objects by their numbers.
-ghost use Rattle.std.specs.Prelude.{◌≡◌, ℕ, [], None, Some, IsSome, OnOk, OnErr, option_map};
+ghost use Rattle.std.specs.Prelude.{◌≡◌, ◌+◌, ℕ, [], None, Some, IsSome, OnOk, OnErr, option_map};
 ghost use Rattle.std.specs.Prelude.{◌<◌, ◌^◌, length};
 ghost use Rattle.vk_model.specs.Texels.{texel_bytes};
 ghost use Rattle.vk_model.specs.Fitting.{size_of, IsKind, IsImage};
 ghost use Rattle.std.specs.Option.{option_copied};
 ghost use Rattle.vk_objects.specs.Images.{kind_of_shape};
-ghost use Rattle.vk_objects.specs.Objects.{object_at, kind_of, bytes_of, new_object, HasSize, IsUnchanged, SetsBytes, SetsObject};
+ghost use Rattle.vk_objects.specs.Objects.{object_at, kind_of, bytes_of, count_of, new_object, HasSize, IsUnchanged, SetsBytes, SetsObject};
 
 use crate::shapes::Shape;
 use cells::Bytes;
@@ -59,7 +59,8 @@ pub struct Objects {
 impl Objects {
     /// No objects. This takes no memory.
     pub fn new(alloc: Global) -> Objects
-        ensures { (id : ℕ) → object_at result id ≡ None }
+        ensures none { (id : ℕ) → object_at result id ≡ None }
+        ensures count { count_of result ≡ 0 }
     {
         Objects {
             map: BTreeMap::new(alloc),
@@ -72,11 +73,20 @@ impl Objects {
         requires kind { IsKind kind }
         requires new { kind_of self.old id.0 ≡ None }
         ensures ok { OnOk result (SetsObject self.old self.new id.0 (Some (new_object kind))) }
+        ensures count { OnOk result (count_of self.new ≡ count_of self.old + 1) }
         ensures err { OnErr result (IsUnchanged self.old self.new) }
+        ensures err_count { OnErr result (count_of self.new ≡ count_of self.old) }
     {
         let bytes = Bytes::zeroed(self.alloc, size(kind))?;
         self.map.insert(id.0, Object { kind, bytes })?;
         Ok(())
+    }
+
+    /// How many objects are live.
+    pub fn count(&self) -> usize
+        ensures { result ≡ count_of self.now }
+    {
+        self.map.len()
     }
 
     /// The kind of a live object.
@@ -150,7 +160,9 @@ impl Objects {
 
     /// Ends a live object.
     pub fn remove(&mut self, id: HandleId)
-        ensures { SetsObject self.old self.new id.0 None }
+        requires { IsSome (kind_of self.old id.0) }
+        ensures removed { SetsObject self.old self.new id.0 None }
+        ensures count { count_of self.new + 1 ≡ count_of self.old }
     {
         self.map.remove(&id.0);
     }
