@@ -1,4 +1,4 @@
-use Rattle.std.proofs.Common.{◌≡◌, ◌∙◌, ap, arith}
+use Rattle.std.proofs.Common.{◌∙◌, ap, arith}
 use Rattle.vk_ready.specs.Counts.{edge_count}
 use Rattle.vk_ready.proofs.Places.{pushed_zero, pushed_more}
 use Rattle.vk_ready.proofs.list.WaitingNodes.push.Goals as goal
