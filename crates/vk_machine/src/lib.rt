@@ -1,0 +1,2 @@
+//! A device in memory.
+#![tactic(auto)]

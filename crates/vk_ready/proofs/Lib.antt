@@ -1,0 +1,4 @@
+pub mod Tallies
+pub mod Places
+pub mod Removal
+pub mod Lowering
