@@ -48,15 +48,24 @@ start_stays (Destroyed id ∷ journal) more batch lt = start_stays journal more 
 
 -- a batch that is accepted next begins behind the log, and behind its waits
 pub start_next : (journal : List Logged) (b : Batch) → batch_start (journal ++ Submitted b ∷ []) (length (accepted journal)) ≡ length (log_of journal) + length b.waits
-start_next [] b = ap (λ n. batch_start (Submitted b ∷ []) n) (ap length accepted-nil) ∙ ap (λ l. length l + length b.waits) (sym nil)
+start_next [] b = ap (λ n. batch_start (Submitted b ∷ []) n) (ap length accepted-nil) ∙ behind
   where
-    nil : log_of [] ≡ []
-    nil = Rattle.vk_device.proofs.Orders.log_of-nil
+    none : length (log_of []) ≡ 0
+    none = ap length Rattle.vk_device.proofs.Orders.log_of-nil
+
+    behind : length b.waits ≡ length (log_of []) + length b.waits
+    behind = omega (arith, none)
 start_next (Created id kind ∷ journal) b = ap (λ n. batch_start (journal ++ Submitted b ∷ []) (length n)) (accepted-cons (Created id kind) journal) ∙ start_next journal b ∙ ap (λ l. length l + length b.waits) (sym (log_of-cons (Created id kind) journal))
 start_next (Wrote id at bytes ∷ journal) b =
     ap (λ n. 1 + batch_start (journal ++ Submitted b ∷ []) (length n)) (accepted-cons (Wrote id at bytes) journal)
     ∙ ap (λ n. 1 + n) (start_next journal b)
-    ∙ ap (λ l. length l + length b.waits) (sym (log_of-cons (Wrote id at bytes) journal))
+    ∙ shifted
+  where
+    one_more : length (log_of (Wrote id at bytes ∷ journal)) ≡ suc (length (log_of journal))
+    one_more = ap length (log_of-cons (Wrote id at bytes) journal)
+
+    shifted : 1 + (length (log_of journal) + length b.waits) ≡ length (log_of (Wrote id at bytes ∷ journal)) + length b.waits
+    shifted = omega (arith, one_more)
 start_next (Submitted c ∷ journal) b =
     ap (λ n. batch_start (Submitted c ∷ journal ++ Submitted b ∷ []) (length n)) (accepted-cons (Submitted c) journal)
     ∙ ap (λ n. length (entry_items (Submitted c)) + n) (start_next journal b)

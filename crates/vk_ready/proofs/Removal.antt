@@ -20,14 +20,14 @@ take_below (x ∷ xs) p zero le = refl
 take_below (x ∷ xs) zero (suc k) le = absurd (omega arith)
 take_below (x ∷ xs) (suc p) (suc k) le = ap (λ l. x ∷ l) (take_below xs p k (omega arith))
 
-reads_below : {X : Type 0} (xs : List X) (p k : ℕ) → k < p → slice_get (remove xs p) k ≡ slice_get xs k
+pub reads_below : {X : Type 0} (xs : List X) (p k : ℕ) → k < p → slice_get (remove xs p) k ≡ slice_get xs k
 reads_below [] zero k lt = refl
 reads_below [] (suc p) k lt = refl
 reads_below (x ∷ xs) zero k lt = absurd (omega arith)
 reads_below (x ∷ xs) (suc p) zero lt = refl
 reads_below (x ∷ xs) (suc p) (suc k) lt = reads_below xs p k (omega arith)
 
-reads_above : {X : Type 0} (xs : List X) (p k : ℕ) → p ≤ k → slice_get (remove xs p) k ≡ slice_get xs (suc k)
+pub reads_above : {X : Type 0} (xs : List X) (p k : ℕ) → p ≤ k → slice_get (remove xs p) k ≡ slice_get xs (suc k)
 reads_above [] zero k le = refl
 reads_above [] (suc p) k le = refl
 reads_above (x ∷ xs) zero k le = refl
