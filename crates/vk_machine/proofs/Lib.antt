@@ -1,3 +1,5 @@
 pub mod Places
 pub mod Left
 pub mod Turns
+pub mod Fits
+pub mod Keeping
