@@ -3,3 +3,4 @@ pub mod Left
 pub mod Turns
 pub mod Fits
 pub mod Keeping
+pub mod Stored

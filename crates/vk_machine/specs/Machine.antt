@@ -1,21 +1,45 @@
 -- What a device in memory keeps.
-use Rattle.std.specs.Prelude.{◌≡◌, ℕ, suc, ◌<◌, ◌≤◌, ◌⊎◌, List, [], ◌∷◌, length, slice_get, Contains, Some}
+use Rattle.std.specs.Prelude.{◌≡◌, ℕ, suc, ◌<◌, ◌≤◌, ◌⊎◌, List, [], ◌∷◌, length, slice_get, Contains, Some, map, unwrap_or}
+use Rattle.std.specs.Map.{lookup}
+use Rattle.std.specs.BTreeMap.{is_at}
+use Rattle.std.specs.Ordering.{nat_cmp}
 use Rattle.vk_types.specs.declared.ops.Node.{Node}
 use Rattle.vk_model.specs.Fitting.{NodeFits}
 use Rattle.vk_model.specs.Log.{Command}
+use Rattle.vk_objects.specs.declared.objects.Object.{Object}
 use Rattle.vk_objects.specs.declared.objects.Objects.{Objects}
 use Rattle.vk_objects.specs.Objects.{bytes_of, HaveSizes}
 use Rattle.vk_ready.specs.declared.nodes.WaitingNode.{WaitingNode}
 use Rattle.vk_device.specs.declared.logged.Logged.{Logged}
 use Rattle.vk_device.specs.Journal.{kind_of, accepted, node_at, creates, creates_of}
 use Rattle.vk_device.specs.Order.{log_of, order_of, place_of}
+use Rattle.std.specs.List.{remove}
+use Rattle.vk_ready.specs.Ready.{ready_place}
+use Rattle.vk_device.specs.declared.logged.Turned.{Turned}
+use Rattle.vk_device.specs.Effects.{Executes}
 use Rattle.vk_device.specs.Running.{IsInOrder}
+use Rattle.vk_machine.specs.declared.choice.Choice.{Choice}
 
 -- what contracts see of a device in memory: what it did, its live objects, and the nodes that wait
 pub record MachineModel : Type 0 where
+  pub choice : Choice
   pub journal : List Logged
-  pub objects : Objects
+  pub stored : List (ℕ × List ℕ)
   pub waiting : List WaitingNode
+
+-- the bytes of each live object, in rising order of their numbers
+abbrev pub stored_in : Objects → List (ℕ × List ℕ)
+stored_in objects = map (λ (e : ℕ × Object). (e.0, e.1.bytes)) objects.map.entries
+
+-- the bytes of an object, and none where it is not live
+abbrev pub bytes_at : List (ℕ × List ℕ) → ℕ → List ℕ
+bytes_at stored id = unwrap_or (lookup (is_at (nat_cmp id)) stored) []
+
+abbrev pub journal_of : MachineModel → List Logged
+journal_of m = m.journal
+
+abbrev pub bytes_in : MachineModel → ℕ → List ℕ
+bytes_in m id = bytes_at m.stored id
 
 -- where a waiting node lies in the log
 abbrev pub place_in : List Logged → WaitingNode → ℕ
@@ -57,3 +81,11 @@ pub record Keeps (journal : List Logged) (objects : Objects) (waiting : List Wai
 abbrev pub waiting_from : (batch node queue : ℕ) → List Node → List WaitingNode
 waiting_from batch node queue [] = []
 waiting_from batch node queue (command ∷ commands) = (record { batch = batch; node = node; queue = queue; command = command }) ∷ waiting_from batch (suc node) queue commands
+
+-- The ready node of this number ran, and is no longer among those that wait.
+pub record RunsReady (old new : MachineModel) (number : ℕ) (turned : Turned) : Type 0 where
+  pub node : WaitingNode
+  pub at : slice_get old.waiting (ready_place old.waiting number) ≡ Some node
+  pub turned_is : turned ≡ Turned.Ran node.batch node.node
+  pub executes : Executes journal_of bytes_in old new node.batch node.node
+  pub waiting : new.waiting ≡ remove old.waiting (ready_place old.waiting number)

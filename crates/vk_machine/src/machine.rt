@@ -1,0 +1,187 @@
+// The device in memory.
+ghost use Rattle.std.specs.Prelude.{◌≡◌, ◌+◌, ◌<◌, ◌≤◌, ◌++◌, [], length};
+ghost use Rattle.vk_ready.specs.Ready.{ready_places, ready_place};
+ghost use Rattle.vk_machine.specs.Machine.{waiting_from, RunsReady};
+
+use crate::Choice;
+use cells::Bytes;
+use std::alloc::Global;
+use std::marker::Model;
+use vk_device::{Device, Logged, Turned};
+use vk_objects::{Objects, execute};
+use vk_ready::{WaitingNode, WaitingNodes};
+use vk_types::{Batch, Handle, HandleId, Kind, Node, Stop};
+
+/// A device that keeps the bytes of its objects in memory, and is never lost. A turn costs the work of its node and a
+/// walk over the nodes that wait.
+#[derive(Drop)]
+pub struct Machine {
+    alloc: Global,
+    choice: Choice,
+    objects: Objects,
+    made: u64,
+    batches: u64,
+    journal: Vec<Logged>,
+    waiting: WaitingNodes,
+}
+
+impl Model for Machine {
+    ghost use Rattle.std.specs.Prelude.{◌+◌, ◌≤◌, length};
+    ghost use Rattle.std.specs.Vec.{vec_len, vec_capacity};
+    ghost use Rattle.vk_objects.specs.Objects.{count_of};
+    ghost use Rattle.vk_machine.specs.Machine.{MachineModel, Keeps, stored_in};
+
+    ghost Value = { MachineModel };
+
+    ghost view = { λ m. record { choice = m.choice; journal = m.journal.items; stored = stored_in m.objects; waiting = m.waiting.nodes } };
+
+    ghost invariant = { λ m. Keeps m.journal.items m.objects m.waiting.nodes m.made m.batches × (vec_len m.journal + count_of m.objects + length m.waiting.nodes ≤ vec_capacity m.journal) };
+}
+
+impl Machine {
+    /// A device without objects. This takes no memory.
+    pub fn new(alloc: Global, choice: Choice) -> Machine
+        ensures choice { result.choice ≡ choice }
+        ensures journal { result.journal ≡ [] }
+    {
+        Machine {
+            alloc,
+            choice,
+            objects: Objects::new(alloc),
+            made: 0,
+            batches: 0,
+            journal: Vec::new(alloc),
+            waiting: WaitingNodes::new(alloc),
+        }
+    }
+
+    // Executes the ready node of this number.
+    fn run(&mut self, number: usize) -> Turned
+        requires { number < length (ready_places self.old.waiting) }
+        ensures ran { RunsReady self.old self.new number result }
+        ensures choice { self.new.choice ≡ self.old.choice }
+    {
+        let node = self.waiting.take(number);
+        execute(&node.command, &mut self.objects);
+        self.journal.push_reserved(Logged::Ran {
+            batch: node.batch,
+            node: node.node,
+        });
+        Turned::Ran {
+            batch: node.batch,
+            node: node.node,
+        }
+    }
+}
+
+// Puts the nodes of a batch behind those that wait.
+fn push_all(waiting: &mut WaitingNodes, batch: u64, queue: u8, nodes: Vec<Node>)
+    requires room { length nodes.items ≤ waiting.old.room }
+    requires short { length nodes.items < 4294967296 }
+    ensures { waiting.new.nodes ≡ waiting.old.nodes ++ waiting_from batch 0 queue nodes.items }
+{
+    let mut number = 0;
+    for command in nodes {
+        waiting.push(WaitingNode {
+            batch,
+            node: number,
+            queue,
+            command,
+        });
+        number += 1;
+    }
+}
+
+impl Device for Machine {
+    ghost use Rattle.vk_machine.specs.Machine.{journal_of, bytes_in};
+
+    ghost journal = { journal_of };
+
+    ghost bytes_of = { bytes_in };
+
+    ghost faults = { λ m. 0 };
+
+    fn create(&mut self, kind: Kind) -> Result<Handle, Stop> {
+        self.journal
+            .reserve(self.objects.count() + self.waiting.len() + 2)?;
+        let number = self.made;
+        self.objects.insert(HandleId(number), kind)?;
+        self.journal.push_reserved(Logged::Created {
+            id: HandleId(number),
+            kind,
+        });
+        self.made = number + 1;
+        Ok(Handle::issue(HandleId(number)))
+    }
+
+    fn write_host(&mut self, id: HandleId, at: u64, bytes: &[u8]) -> Result<(), Stop> {
+        let copy = Bytes::copy_of(self.alloc, bytes)?;
+        self.journal
+            .reserve(self.objects.count() + self.waiting.len() + 1)?;
+        let mut held = self.objects.take(id);
+        held.overwrite(at as usize, bytes);
+        self.objects.put_back(id, held);
+        self.journal.push_reserved(Logged::Wrote {
+            id,
+            at,
+            bytes: copy,
+        });
+        Ok(())
+    }
+
+    fn submit(&mut self, batch: &Batch) -> Result<(), Stop> {
+        let copy = batch.copy(self.alloc)?;
+        let nodes = batch.nodes.copy(self.alloc)?.into_vec();
+        self.journal
+            .reserve(self.objects.count() + self.waiting.len() + nodes.len() + 1)?;
+        self.waiting.reserve(nodes.len())?;
+        push_all(&mut self.waiting, self.batches, batch.queue, nodes);
+        self.journal
+            .push_reserved(Logged::Submitted { batch: copy });
+        self.batches += 1;
+        Ok(())
+    }
+
+    fn turn(&mut self) -> Result<Turned, Stop> {
+        let ready = self.waiting.ready();
+        if ready == 0 {
+            return Ok(Turned::Idle);
+        }
+        let number = self.choice.pick(ready);
+        Ok(self.run(number))
+    }
+
+    fn read_host(&mut self, id: HandleId, at: u64, out: &mut [u8]) -> Result<(), Stop> {
+        let copy = match self.objects.bytes(id) {
+            Some(bytes) => {
+                let rest = &bytes[at as usize..];
+                Bytes::copy_of(self.alloc, &rest[..out.len()])?
+            }
+            None => unreachable!(),
+        };
+        self.journal
+            .reserve(self.objects.count() + self.waiting.len() + 1)?;
+        out.copy_from_slice(copy.as_slice());
+        self.journal.push_reserved(Logged::Fetched {
+            id,
+            at,
+            bytes: copy,
+        });
+        Ok(())
+    }
+
+    fn destroy(&mut self, handle: Handle) -> Result<(), Stop> {
+        let id = handle.spend();
+        self.objects.remove(id);
+        self.journal.push_reserved(Logged::Destroyed { id });
+        Ok(())
+    }
+
+    fn abandon(&mut self, handle: Handle) {
+        let _ = handle.spend();
+    }
+
+    fn journal(&self) -> &[Logged] {
+        &self.journal
+    }
+}
