@@ -11,10 +11,13 @@ use Rattle.cells.specs.Contents.{Agrees, overwritten, part}
 use Rattle.vk_types.specs.declared.handles.HandleId.{HandleId}
 use Rattle.vk_types.specs.declared.handles.Kind.{Kind}
 use Rattle.vk_types.specs.declared.handles.Kind.TheVariants.{Buffer}
+use Rattle.vk_model.specs.Meaning.{IsSettled}
 use Rattle.vk_device.specs.declared.logged.Logged.{Logged}
 use Rattle.vk_device.specs.declared.logged.Logged.TheVariants.{Created, Wrote, Fetched, Destroyed}
 use Rattle.vk_device.specs.Journal.{objects_after, kind_of, creates_of, ReachesTo, IsClean}
+use Rattle.vk_device.specs.Order.{HasNoBatch, log_of, order_of}
 use Rattle.vk_device.proofs.Laws.{kind_of-push, IsClean-push, unused, kind_of-nil}
+use Rattle.vk_device.proofs.Orders.{nothing_waits, no_batch_after_quiet, no_batch_after_write, settled_without_batches}
 use Rattle.trace_run.specs.Group.{entry}
 use Rattle.trace_run.specs.Model.{Contents}
 use Rattle.trace_run.specs.Stands.{Holds, Stands, IsStored, KeepsStore, StoreTable, live_count, one, held_in}
@@ -37,6 +40,7 @@ pub holds_created : (journal : List Logged) (held : ℕ → ℕ) (id : HandleId)
 holds_created journal held id kind holds fresh = record {
   clean = IsClean-push journal (Created id kind) holds.clean fresh;
   each = λ i. created_count i id.0 kind (kind_of journal i) (held i) (λ same. rw same (unused journal id.0 fresh)) (holds.each i) ∙ ap live_count (sym (at_entry journal (Created id kind) i));
+  idle = no_batch_after_quiet journal (Created id kind) refl refl holds.idle;
 }
 
 -- a write and a read change nothing of what is held
@@ -44,12 +48,14 @@ pub holds_wrote : (journal : List Logged) (held : ℕ → ℕ) (id : HandleId) (
 holds_wrote journal held id at bytes holds inside = record {
   clean = IsClean-push journal (Wrote id at bytes) holds.clean inside;
   each = λ i. holds.each i ∙ ap live_count (sym (at_entry journal (Wrote id at bytes) i));
+  idle = no_batch_after_write journal id at bytes holds.idle;
 }
 
 pub holds_fetched : (journal : List Logged) (held : ℕ → ℕ) (id : HandleId) (at : ℕ) (bytes : List ℕ) → Holds journal held → ReachesTo (kind_of journal id.0) (at + length bytes) → Holds (journal ++ Fetched id at bytes ∷ []) held
 holds_fetched journal held id at bytes holds inside = record {
   clean = IsClean-push journal (Fetched id at bytes) holds.clean inside;
   each = λ i. holds.each i ∙ ap live_count (sym (at_entry journal (Fetched id at bytes) i));
+  idle = no_batch_after_quiet journal (Fetched id at bytes) refl refl holds.idle;
 }
 
 live_from : (kind : Option Kind) (n : ℕ) → 0 < n → n ≡ live_count kind → IsSome kind
@@ -72,11 +78,12 @@ pub holds_destroyed : (journal : List Logged) (held : ℕ → ℕ) (id : HandleI
 holds_destroyed journal held id holds = record {
   clean = IsClean-push journal (Destroyed id) holds.clean (held_is_live journal (λ i. held i + one id.0 i) id.0 holds (omega (arith, itself id.0)));
   each = λ i. destroyed_count i id.0 (kind_of journal i) (held i) (holds.each i) ∙ ap live_count (sym (at_entry journal (Destroyed id) i));
+  idle = no_batch_after_quiet journal (Destroyed id) refl refl holds.idle;
 }
 
 -- only how often each is held matters
 pub holds_same : (journal : List Logged) (f g : ℕ → ℕ) → Holds journal f → ((i : ℕ) → g i ≡ f i) → Holds journal g
-holds_same journal f g holds same = record { clean = holds.clean; each = λ i. same i ∙ holds.each i }
+holds_same journal f g holds same = record { clean = holds.clean; each = λ i. same i ∙ holds.each i; idle = holds.idle }
 
 -- the last of what is held is live
 pub last_is_live : (journal : List Logged) (held : ℕ → ℕ) (old : ℕ) → Holds journal (λ i. held i + one old i) → IsSome (kind_of journal old)
@@ -101,6 +108,10 @@ created_kind journal id kind = at_entry journal (Created id kind) id.0 ∙ itsel
 
 pub inside_new : (first second : List Logged) (id written : HandleId) (bytes : List ℕ) → written ≡ id → second ≡ first ++ Created id (Buffer (length bytes)) ∷ [] → ReachesTo (kind_of second written.0) (0 + length bytes)
 inside_new first second id written bytes same created = rw (created, same) (reaches _ (length bytes) (0 + length bytes) (created_kind first id (Buffer (length bytes))) (omega arith))
+
+-- where no batch was accepted each object is settled also behind a create
+pub settled_new : (first second : List Logged) (id : HandleId) (kind : Kind) (written : ℕ) → HasNoBatch first → second ≡ first ++ Created id kind ∷ [] → IsSettled (log_of second) (order_of second) written
+settled_new first second id kind written idle created = settled_without_batches second written (rw created (no_batch_after_quiet first (Created id kind) refl refl idle))
 
 -- an object that was made and then written whole
 module _ (first second third : List Logged) (id written : HandleId) (bytes : List ℕ)
@@ -219,6 +230,11 @@ stored_id kinds bytes_of o content id stored is = rw is at stored
 pub stored_none : (kinds : ℕ → Option Kind) (bytes_of : ℕ → List ℕ) (o : Option HandleId) (content : List ℕ) → IsStored kinds bytes_of o content → o ≡ None → content ≡ []
 stored_none kinds bytes_of o content stored is = rw is at stored
 
+-- where no object changes each store is as it was
+pub stored_kept : (old_kinds new_kinds : ℕ → Option Kind) (old_bytes new_bytes : ℕ → List ℕ) (o : Option HandleId) (content : List ℕ) → ((i : ℕ) → (new_kinds i ≡ old_kinds i) × (new_bytes i ≡ old_bytes i)) → IsStored old_kinds old_bytes o content → IsStored new_kinds new_bytes o content
+stored_kept old_kinds new_kinds old_bytes new_bytes None content kept stored = stored
+stored_kept old_kinds new_kinds old_bytes new_bytes (Some h) content kept stored = ((kept h.0).0 ∙ stored.0, subst (λ (b : List ℕ). Agrees b content) (sym (kept h.0).1) stored.1)
+
 -- a buffer whose bytes are replaced
 module _ (old made now : List Logged) (old_bytes made_bytes now_bytes : ℕ → List ℕ) (stores after : StoreTable) (contents : Contents) (name : ℕ) (handle : HandleId) (bytes : List ℕ)
     (stands : Stands old old_bytes stores contents) (holds : Holds now (held_in after))
@@ -258,6 +274,7 @@ stands_empty journal bytes_of stores none empty = record {
   holds = record {
     clean = rw none tt;
     each = λ id. rw (none, empty) (sym (ap live_count (kind_of-nil id)));
+    idle = rw none nothing_waits;
   };
   stored = λ name. rw empty refl;
 }

@@ -8,6 +8,7 @@ use Rattle.vk_types.specs.declared.handles.Kind.{Kind}
 use Rattle.vk_types.specs.declared.handles.Kind.TheVariants.{Buffer}
 use Rattle.vk_device.specs.declared.logged.Logged.{Logged}
 use Rattle.vk_device.specs.Journal.{kind_of, IsClean}
+use Rattle.vk_device.specs.Order.{HasNoBatch}
 use Rattle.trace_run.specs.declared.calls.Call.{Call}
 use Rattle.trace_run.specs.declared.calls.Entry.{Entry}
 use Rattle.trace_run.specs.Group.{entry}
@@ -35,10 +36,11 @@ abbrev pub live_count : Option Kind → ℕ
 live_count (Some kind) = 1
 live_count None = 0
 
--- the journal is clean, and its live objects are those that are held, each once
+-- the journal is clean and has no batch, and its live objects are those that are held, each once
 pub record Holds (journal : List Logged) (held : ℕ → ℕ) : Type 0 where
   pub clean : IsClean journal
   pub each : (id : ℕ) → held id ≡ live_count (kind_of journal id)
+  pub idle : HasNoBatch journal
 
 -- a buffer without a store is empty; the bytes of a store agree with the content
 abbrev pub IsStored : (ℕ → Option Kind) → (ℕ → List ℕ) → Option HandleId → List ℕ → Type 0

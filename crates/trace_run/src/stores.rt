@@ -4,6 +4,7 @@ ghost use Rattle.cells.specs.Contents.{Agrees, part};
 ghost use Rattle.vk_types.specs.declared.handles.Kind.TheVariants.{Buffer};
 ghost use Rattle.vk_device.specs.Faults.{HasCause};
 ghost use Rattle.vk_device.specs.Journal.{kind_of, IsClean, ReachesTo};
+ghost use Rattle.vk_device.specs.Order.{HasNoBatch};
 ghost use Rattle.trace_run.specs.Group.{entry};
 ghost use Rattle.trace_run.specs.Model.{Contents};
 ghost use Rattle.trace_run.specs.Stands.{Holds, KeepsStore, Stands, held_in, one};
@@ -136,7 +137,8 @@ impl Stores {
 
 /// Makes an object with these bytes.
 pub fn make_store<D: Device>(device: &mut D, bytes: &[u8]) -> Result<Handle, Stop>
-    requires { 0 < length bytes.now }
+    requires some { 0 < length bytes.now }
+    requires idle { HasNoBatch (D.journal device.old) }
     ensures holds { (held : ℕ → ℕ) → Holds (D.journal device.old) held → IfOk result (λ id. Holds (D.journal device.new) (λ i. held i + one id.0 i)) }
     ensures kind { IfOk result (λ id. kind_of (D.journal device.new) id.0 ≡ Some (Kind.Buffer (length bytes.now))) }
     ensures bytes { IfOk result (λ id. D.bytes_of device.new id.0 ≡ bytes.now) }
@@ -166,6 +168,7 @@ fn fetch<D: Device>(
 ) -> Result<Bytes, Stop>
     requires some { 0 < len }
     requires inside { ReachesTo (kind_of (D.journal device.old) id.0) (at + len) }
+    requires idle { HasNoBatch (D.journal device.old) }
     ensures bytes { IfOk result (λ bytes. bytes ≡ part (D.bytes_of device.old id.0) at len) }
     ensures kept { (i : ℕ) → (kind_of (D.journal device.new) i ≡ kind_of (D.journal device.old) i) × (D.bytes_of device.new i ≡ D.bytes_of device.old i) }
     ensures holds { (held : ℕ → ℕ) → Holds (D.journal device.old) held → Holds (D.journal device.new) held }

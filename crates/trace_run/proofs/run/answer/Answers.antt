@@ -5,6 +5,9 @@ use Rattle.trace_run.proofs.StoreLaws.{stands_data}
 use Rattle.trace_run.proofs.Sound.{read_inside}
 use Rattle.trace_run.proofs.run.answer.Goals as goal
 
+pub make_store-requires-clause-idle : goal.make_store-requires-clause-idle
+make_store-requires-clause-idle g c = c.requires.stands.holds.idle
+
 pub put-requires : goal.put-requires
 put-requires g c = c.in_ok-handle-in-Data.ensures.holds (held_in c.args.stores.now) c.requires.stands.holds
 

@@ -1,8 +1,15 @@
 use Rattle.std.proofs.Common.{◌≡◌, ℕ, ◌+◌, length, sym, subst, arith}
 use Rattle.vk_device.specs.Journal.{kind_of, ReachesTo}
 use Rattle.vk_device.proofs.Laws.{IsClean-push}
+use Rattle.vk_device.proofs.Orders.{settled_without_batches, visible_without_batches}
 use Rattle.trace_run.proofs.StoreLaws.{fetched_kind, same_bytes, holds_fetched}
 use Rattle.trace_run.proofs.stores.fetch.Goals as goal
+
+pub read_host-requires-clause-settled : goal.read_host-requires-clause-settled
+read_host-requires-clause-settled g c = settled_without_batches _ c.args.id.0 c.requires.idle
+
+pub read_host-requires-clause-visible : goal.read_host-requires-clause-visible
+read_host-requires-clause-visible g c = visible_without_batches _ c.args.id.0 _ _ c.requires.idle
 
 pub returns-clause-kept : goal.returns-clause-kept
 returns-clause-kept g c = λ i. (fetched_kind _ _ c.args.id c.args.at _ c.in_ok-read_host.ensures.logged.logged i, same_bytes _ _ c.args.id.0 c.in_ok-read_host.ensures.same c.in_ok-read_host.ensures.logged.others i)

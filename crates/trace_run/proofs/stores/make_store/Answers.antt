@@ -1,10 +1,13 @@
 use Rattle.std.proofs.Common.{ap, ◌∙◌}
 use Rattle.vk_types.specs.declared.handles.HandleId.{HandleId}
-use Rattle.trace_run.proofs.StoreLaws.{inside_new, made_holds, made_kind, made_clean, made_apart, made_others, created_clean}
+use Rattle.trace_run.proofs.StoreLaws.{inside_new, settled_new, made_holds, made_kind, made_clean, made_apart, made_others, created_clean}
 use Rattle.trace_run.proofs.stores.make_store.Goals as goal
 
 pub write_host-requires-clause-inside : goal.write_host-requires-clause-inside
 write_host-requires-clause-inside g c = inside_new _ _ c.in_ok-handle.handle c.id.result c.args.bytes.now c.id.ensures c.in_ok-handle.ensures.logged.logged
+
+pub write_host-requires-clause-settled : goal.write_host-requires-clause-settled
+write_host-requires-clause-settled g c = settled_new _ _ c.in_ok-handle.handle _ c.id.result.0 c.requires.idle c.in_ok-handle.ensures.logged.logged
 
 pub returns-in-Ok-clause-holds : goal.returns-in-Ok-clause-holds
 returns-in-Ok-clause-holds g c = λ held holds. made_holds _ _ _ c.in_ok-handle.handle c.id.result c.args.bytes.now c.id.ensures c.in_ok-handle.ensures.logged.logged c.in-Ok.ensures.logged.logged held c.in_ok-handle.ensures.fresh holds

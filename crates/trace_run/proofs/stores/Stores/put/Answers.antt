@@ -1,12 +1,16 @@
 use Rattle.std.proofs.lemmas.Result.{on_ok_weaker}
+use Rattle.vk_device.proofs.Orders.{settled_without_batches}
 use Rattle.trace_run.specs.Stands.{held_in}
 use Rattle.trace_run.proofs.StoreLaws.{holds_swapped, holds_added, holds_destroyed, last_is_live, kept_destroyed, either_way}
 use Rattle.trace_run.proofs.stores.Stores.put.Goals as goal
 
-pub destroy-requires : goal.destroy-requires
-destroy-requires g c =
+pub destroy-requires-clause-live : goal.destroy-requires-clause-live
+destroy-requires-clause-live g c =
     let swapped = rw c.in-Ok-Some.field-0-is at c.in-Ok-Some.ensures.held in
     last_is_live _ (held_in c.replace.new.self) c.in-Ok-Some.old.0 (holds_swapped _ (held_in c.args.self.now) _ c.in-Ok-Some.old.0 c.args.handle.0 swapped c.requires)
+
+pub destroy-requires-clause-settled : goal.destroy-requires-clause-settled
+destroy-requires-clause-settled g c = settled_without_batches _ c.in-Ok-Some.old.0 c.requires.idle
 
 pub returns-in-Ok-Some-clause-holds : goal.returns-in-Ok-Some-clause-holds
 returns-in-Ok-Some-clause-holds g c =
