@@ -4,3 +4,4 @@ pub mod Turns
 pub mod Fits
 pub mod Keeping
 pub mod Stored
+pub mod Calls

@@ -31,7 +31,7 @@ pub accepted-push : (journal : List Logged) (entry : Logged) → accepted (journ
 unfolding accepted
 accepted-push journal entry = fold_push (λ batches e. batches ++ accepts e) [] journal entry
 
-accepted-nil : accepted [] ≡ []
+pub accepted-nil : accepted [] ≡ []
 unfolding accepted
 accepted-nil = refl
 
