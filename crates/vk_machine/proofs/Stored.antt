@@ -31,3 +31,7 @@ stored_bytes objects id = ap (λ o. unwrap_or o []) (mapped (is_at (nat_cmp id))
 
 pub all_stored_bytes : (objects : Objects) → bytes_at (stored_in objects) ≡ bytes_of objects
 all_stored_bytes objects = fun_ext (stored_bytes objects)
+
+pub bytes_found : (o : Option Object) (b : List ℕ) → Some b ≡ Rattle.std.specs.Prelude.option_map (λ (x : Object). x.bytes) o → b ≡ bytes_in o
+bytes_found None b is = let no : ◌≡◌ {A = Option (List ℕ)} (Some b) None = is in absurd (cc)
+bytes_found (Some x) b is = Rattle.std.proofs.lemmas.Option.same_Some b x.bytes is
