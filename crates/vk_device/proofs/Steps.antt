@@ -38,7 +38,6 @@ made_from journal entry log order same_kinds log_is order_is =
 
 -- Writes by the host
 
-
 module _ (journal : List Logged) (old new : ℕ → List ℕ) (id : HandleId) (at : ℕ) (bytes : List ℕ) where
   abbrev W : Item
   W = HostWrite id.0 at bytes
@@ -211,7 +210,7 @@ module _ (journal : List Logged) (old new : ℕ → List ℕ) (batch : Batch) (h
     sizes = λ id kind is. ap length (others id) ∙ has.sizes id kind (sym (kind_after journal (Submitted batch) id) ∙ is);
     agree = λ id i live below.
         let is : made (journal ++ Submitted batch ∷ []) id i ≡ made journal id i =
-            ap (λ c. c id i) (made_from journal (Submitted batch) (log_of journal ++ items) (order_of journal) refl longer same_order ∙ executed_longer (kinds_of journal) (log_of journal) items (order_of journal) has.permitted)
+        ap (λ c. c id i) (made_from journal (Submitted batch) (log_of journal ++ items) (order_of journal) refl longer same_order ∙ executed_longer (kinds_of journal) (log_of journal) items (order_of journal) has.permitted)
         in
         ap (λ b. cell_at b i) (others id) ∙ has.agree id i (subst IsSome (kind_after journal (Submitted batch) id) live) (subst (λ v. v < 256) is below) ∙ sym is;
   }
@@ -239,56 +238,56 @@ module _ (journal : List Logged) (old new : ℕ → List ℕ) (batch node : ℕ)
     (ready : IsReady (log_of journal) (order_of journal) (place_of journal batch node))
     (sizes : (id : ℕ) → length (new id) ≡ length (old id))
     (agree : ContentsAgree (contents new) (apply (kinds_of journal) (Command queue command) (contents old)))
-    where
-  abbrev C : Item
-  C = Command queue command
+  where
+    abbrev C : Item
+    C = Command queue command
 
-  same_log : log_of (journal ++ Ran batch node ∷ []) ≡ log_of journal
-  same_log = log_of-push journal (Ran batch node) ∙ Rattle.std.proofs.lemmas.List.append-nil (log_of journal)
+    same_log : log_of (journal ++ Ran batch node ∷ []) ≡ log_of journal
+    same_log = log_of-push journal (Ran batch node) ∙ Rattle.std.proofs.lemmas.List.append-nil (log_of journal)
 
-  one_more : order_of (journal ++ Ran batch node ∷ []) ≡ order_of journal ++ place_of journal batch node ∷ []
-  one_more = order_of-push journal (Ran batch node)
+    one_more : order_of (journal ++ Ran batch node ∷ []) ≡ order_of journal ++ place_of journal batch node ∷ []
+    one_more = order_of-push journal (Ran batch node)
 
-  ran_is : made (journal ++ Ran batch node ∷ []) ≡ apply (kinds_of journal) C (made journal)
-  ran_is =
-      made_from journal (Ran batch node) (log_of journal) (order_of journal ++ place_of journal batch node ∷ []) refl same_log one_more
-      ∙ executed_push (kinds_of journal) (log_of journal) (order_of journal) (place_of journal batch node) C at
+    ran_is : made (journal ++ Ran batch node ∷ []) ≡ apply (kinds_of journal) C (made journal)
+    ran_is =
+        made_from journal (Ran batch node) (log_of journal) (order_of journal ++ place_of journal batch node ∷ []) refl same_log one_more
+        ∙ executed_push (kinds_of journal) (log_of journal) (order_of journal) (place_of journal batch node) C at
 
-  -- what the node finds agrees
-  finds : ContentsAgree (found C (contents old)) (found C (made journal))
-  finds id i below = elim (cases_Bool (is_touched C id i)) [
-    | inl t ↦
-        let here : found C (made journal) id i ≡ made journal id i = cond-true (is_touched C id i) (made journal id i) UNDEFINED t in
-        cond-true (is_touched C id i) (contents old id i) UNDEFINED t
-        ∙ has.agree id i (touched_lives (kind_of journal) command queue id live (covers_touches (node_ranges command) id i t)) (subst (λ v. v < 256) here below)
-        ∙ sym here
-    | inr f ↦ absurd (omega (arith, cond-false (is_touched C id i) (made journal id i) UNDEFINED f, below))
-  ]
+    -- what the node finds agrees
+    finds : ContentsAgree (found C (contents old)) (found C (made journal))
+    finds id i below = elim (cases_Bool (is_touched C id i)) [
+      | inl t ↦
+          let here : found C (made journal) id i ≡ made journal id i = cond-true (is_touched C id i) (made journal id i) UNDEFINED t in
+          cond-true (is_touched C id i) (contents old id i) UNDEFINED t
+          ∙ has.agree id i (touched_lives (kind_of journal) command queue id live (covers_touches (node_ranges command) id i t)) (subst (λ v. v < 256) here below)
+          ∙ sym here
+      | inr f ↦ absurd (omega (arith, cond-false (is_touched C id i) (made journal id i) UNDEFINED f, below))
+    ]
 
-  -- so what it makes agrees, at each live object
-  makes : (id i : ℕ) → IsSome (kind_of journal id) → apply (kinds_of journal) C (made journal) id i < 256 → apply (kinds_of journal) C (contents old) id i ≡ apply (kinds_of journal) C (made journal) id i
-  makes id i lives below = elim (cases_Bool (is_written C id i)) [
-    | inl w ↦
-        let second : apply (kinds_of journal) C (made journal) id i ≡ apply (kinds_of journal) C (found C (made journal)) id i = found_again (kinds_of journal) C (made journal) id i w in
-        found_again (kinds_of journal) C (contents old) id i w
-        ∙ agrees_after (kinds_of journal) C (found C (contents old)) (found C (made journal)) finds id i (subst (λ v. v < 256) second below)
-        ∙ sym second
-    | inr u ↦
-        let second : apply (kinds_of journal) C (made journal) id i ≡ made journal id i = after_unwritten (kinds_of journal) C (made journal) id i u in
-        after_unwritten (kinds_of journal) C (contents old) id i u ∙ has.agree id i lives (subst (λ v. v < 256) second below) ∙ sym second
-  ]
+    -- so what it makes agrees, at each live object
+    makes : (id i : ℕ) → IsSome (kind_of journal id) → apply (kinds_of journal) C (made journal) id i < 256 → apply (kinds_of journal) C (contents old) id i ≡ apply (kinds_of journal) C (made journal) id i
+    makes id i lives below = elim (cases_Bool (is_written C id i)) [
+      | inl w ↦
+          let second : apply (kinds_of journal) C (made journal) id i ≡ apply (kinds_of journal) C (found C (made journal)) id i = found_again (kinds_of journal) C (made journal) id i w in
+          found_again (kinds_of journal) C (contents old) id i w
+          ∙ agrees_after (kinds_of journal) C (found C (contents old)) (found C (made journal)) finds id i (subst (λ v. v < 256) second below)
+          ∙ sym second
+      | inr u ↦
+          let second : apply (kinds_of journal) C (made journal) id i ≡ made journal id i = after_unwritten (kinds_of journal) C (made journal) id i u in
+          after_unwritten (kinds_of journal) C (contents old) id i u ∙ has.agree id i lives (subst (λ v. v < 256) second below) ∙ sym second
+    ]
 
-  pub in_order_ran : IsInOrder (journal ++ Ran batch node ∷ []) new
-  in_order_ran = record {
-    clean = IsClean-push journal (Ran batch node) has.clean (subst (λ o. IsLiveNode (kind_of journal) o) (sym is) live);
-    known = λ k x id here touched. was_created journal (Ran batch node) id (has.known k x id (subst (λ (l : List Item). slice_get l k ≡ Some x) same_log here) touched);
-    permitted = subst (λ l. IsPermitted l (order_of (journal ++ Ran batch node ∷ []))) (sym same_log) (subst (IsPermitted (log_of journal)) (sym one_more) (permitted_push (log_of journal) (order_of journal) (place_of journal batch node) has.permitted ready));
-    sizes = λ id kind here. sizes id ∙ has.sizes id kind (sym (kind_after journal (Ran batch node) id) ∙ here);
-    agree = λ id i lives below.
-        let made_is : made (journal ++ Ran batch node ∷ []) id i ≡ apply (kinds_of journal) C (made journal) id i = ap (λ c. c id i) ran_is in
-        let here : apply (kinds_of journal) C (contents old) id i ≡ apply (kinds_of journal) C (made journal) id i = makes id i (subst IsSome (kind_after journal (Ran batch node) id) lives) (subst (λ v. v < 256) made_is below) in
-        agree id i (subst (λ v. v < 256) (made_is ∙ sym here) below) ∙ here ∙ sym made_is;
-  }
+    pub in_order_ran : IsInOrder (journal ++ Ran batch node ∷ []) new
+    in_order_ran = record {
+      clean = IsClean-push journal (Ran batch node) has.clean (subst (λ o. IsLiveNode (kind_of journal) o) (sym is) live);
+      known = λ k x id here touched. was_created journal (Ran batch node) id (has.known k x id (subst (λ (l : List Item). slice_get l k ≡ Some x) same_log here) touched);
+      permitted = subst (λ l. IsPermitted l (order_of (journal ++ Ran batch node ∷ []))) (sym same_log) (subst (IsPermitted (log_of journal)) (sym one_more) (permitted_push (log_of journal) (order_of journal) (place_of journal batch node) has.permitted ready));
+      sizes = λ id kind here. sizes id ∙ has.sizes id kind (sym (kind_after journal (Ran batch node) id) ∙ here);
+      agree = λ id i lives below.
+          let made_is : made (journal ++ Ran batch node ∷ []) id i ≡ apply (kinds_of journal) C (made journal) id i = ap (λ c. c id i) ran_is in
+          let here : apply (kinds_of journal) C (contents old) id i ≡ apply (kinds_of journal) C (made journal) id i = makes id i (subst IsSome (kind_after journal (Ran batch node) id) lives) (subst (λ v. v < 256) made_is below) in
+          agree id i (subst (λ v. v < 256) (made_is ∙ sym here) below) ∙ here ∙ sym made_is;
+    }
 
 -- Reads
 

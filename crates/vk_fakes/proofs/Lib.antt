@@ -1,2 +1,2 @@
 mod Blown
-pub mod Keeping
+mod Passing

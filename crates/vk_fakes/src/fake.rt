@@ -1,131 +1,75 @@
-// A device that executes at once what it is told.
+// Devices in memory whose order is told beforehand.
 ghost use Rattle.std.specs.Prelude.{◌≡◌, []};
-ghost use Rattle.vk_fakes.specs.Fakes.{bytes_in, byte_count as count};
+ghost use Rattle.vk_machine.specs.Machine.{journal_of, bytes_in};
 
-use cells::Bytes;
 use std::alloc::Global;
-use std::collections::BTreeMap;
-use std::marker::Model;
-use vk_device::{Device, Logged};
-use vk_types::{Handle, HandleId, Kind, Stop};
+use vk_device::{Device, Logged, Turned};
+use vk_machine::{Choice, Machine};
+use vk_types::{Batch, Handle, HandleId, Kind, Stop};
 
-#[derive(Debug, Drop)]
-struct Object {
-    kind: Kind,
-    bytes: Bytes,
-}
-
-/// A device that keeps the bytes of its objects in memory, and is never lost. An image has no bytes, since no call
-/// reads or writes one.
+/// A device that keeps the bytes of its objects in memory, and is never lost. Each turn executes the first ready node
+/// in order of acceptance, or the last one.
 #[derive(Drop)]
 pub struct FakeDevice {
-    alloc: Global,
-    objects: BTreeMap<u64, Object>,
-    made: u64,
-    journal: Vec<Logged>,
-}
-
-impl Model for FakeDevice {
-    ghost use Rattle.std.specs.Prelude.{◌≤◌, ◌+◌};
-    ghost use Rattle.std.specs.Vec.{vec_len, vec_capacity};
-    ghost use Rattle.std.specs.BTreeMap.{btree_map_len};
-    ghost use Rattle.vk_fakes.specs.Fakes.{FakeModel, Keeps};
-
-    ghost Value = { FakeModel };
-
-    ghost view = { λ d. record { journal = d.journal.items; objects = d.objects.entries } };
-
-    ghost invariant = { λ d. Keeps d.journal.items d.objects.entries d.made × (vec_len d.journal + btree_map_len d.objects ≤ vec_capacity d.journal) };
+    machine: Machine,
 }
 
 impl FakeDevice {
-    /// A device without objects.
+    /// A device without objects, which executes the first ready node.
     pub fn first(alloc: Global) -> FakeDevice
-        ensures { result ≡ record { journal = []; objects = [] } }
+        ensures { journal_of result.machine ≡ [] }
     {
         FakeDevice {
-            alloc,
-            objects: BTreeMap::new(alloc),
-            made: 0,
-            journal: Vec::new(alloc),
+            machine: Machine::new(alloc, Choice::First),
+        }
+    }
+
+    /// A device without objects, which executes the last ready node.
+    pub fn last(alloc: Global) -> FakeDevice
+        ensures { journal_of result.machine ≡ [] }
+    {
+        FakeDevice {
+            machine: Machine::new(alloc, Choice::Last),
         }
     }
 }
 
 impl Device for FakeDevice {
-    ghost journal = { λ d. d.journal };
+    ghost journal = { λ f. journal_of f.machine };
 
-    ghost bytes_of = { λ d id. bytes_in d.objects id };
+    ghost bytes_of = { λ f id. bytes_in f.machine id };
 
-    ghost faults = { λ d. 0 };
+    ghost faults = { λ f. 0 };
 
     fn create(&mut self, kind: Kind) -> Result<Handle, Stop> {
-        let bytes = Bytes::zeroed(self.alloc, byte_count(kind))?;
-        self.journal.reserve(self.objects.len() + 2)?;
-        let number = self.made;
-        self.objects.insert(number, Object { kind, bytes })?;
-        self.journal.push_reserved(Logged::Created {
-            id: HandleId(number),
-            kind,
-        });
-        self.made = number + 1;
-        Ok(Handle::issue(HandleId(number)))
+        self.machine.create(kind)
     }
 
     fn write_host(&mut self, id: HandleId, at: u64, bytes: &[u8]) -> Result<(), Stop> {
-        let copy = Bytes::copy_of(self.alloc, bytes)?;
-        self.journal.reserve(self.objects.len() + 1)?;
-        if let Some(object) = self.objects.get_mut(&id.0) {
-            object.bytes.overwrite(at as usize, bytes);
-        }
-        self.journal.push_reserved(Logged::Wrote {
-            id,
-            at,
-            bytes: copy,
-        });
-        Ok(())
+        self.machine.write_host(id, at, bytes)
+    }
+
+    fn submit(&mut self, batch: &Batch) -> Result<(), Stop> {
+        self.machine.submit(batch)
+    }
+
+    fn turn(&mut self) -> Result<Turned, Stop> {
+        self.machine.turn()
     }
 
     fn read_host(&mut self, id: HandleId, at: u64, out: &mut [u8]) -> Result<(), Stop> {
-        let copy = match self.objects.get(&id.0) {
-            Some(object) => {
-                let rest = &object.bytes.as_slice()[at as usize..];
-                Bytes::copy_of(self.alloc, &rest[..out.len()])?
-            }
-            None => unreachable!(),
-        };
-        self.journal.reserve(self.objects.len() + 1)?;
-        out.copy_from_slice(copy.as_slice());
-        self.journal.push_reserved(Logged::Fetched {
-            id,
-            at,
-            bytes: copy,
-        });
-        Ok(())
+        self.machine.read_host(id, at, out)
     }
 
     fn destroy(&mut self, handle: Handle) -> Result<(), Stop> {
-        let id = handle.spend();
-        let _ = self.objects.remove(&id.0);
-        self.journal.push_reserved(Logged::Destroyed { id });
-        Ok(())
+        self.machine.destroy(handle)
     }
 
     fn abandon(&mut self, handle: Handle) {
-        let _ = handle.spend();
+        self.machine.abandon(handle);
     }
 
     fn journal(&self) -> &[Logged] {
-        &self.journal
-    }
-}
-
-// How many bytes an object has.
-fn byte_count(kind: Kind) -> usize
-    ensures { result ≡ count kind }
-{
-    match kind {
-        Kind::Buffer { size } => size as usize,
-        Kind::Image { .. } => 0,
+        self.machine.journal()
     }
 }

@@ -3,8 +3,8 @@ ghost use Rattle.std.specs.Prelude.{◌≡◌, ◌+◌, ◌≤◌, true, false};
 ghost use Rattle.faults.specs.Faults.{Rose};
 
 use faults::FaultCount;
-use vk_device::{Device, Logged};
-use vk_types::{Handle, HandleId, Kind, Stop};
+use vk_device::{Device, Logged, Turned};
+use vk_types::{Batch, Handle, HandleId, Kind, Stop};
 
 /// Passes so many calls on to the device inside. From then on each call that can answers `Lost`, and is counted.
 #[derive(Drop)]
@@ -63,6 +63,20 @@ impl<D: Device> Device for FuseDevice<D> {
             return Err(Stop::Lost);
         }
         self.inner.write_host(id, at, bytes)
+    }
+
+    fn submit(&mut self, batch: &Batch) -> Result<(), Stop> {
+        if self.blows() {
+            return Err(Stop::Lost);
+        }
+        self.inner.submit(batch)
+    }
+
+    fn turn(&mut self) -> Result<Turned, Stop> {
+        if self.blows() {
+            return Err(Stop::Lost);
+        }
+        self.inner.turn()
     }
 
     fn read_host(&mut self, id: HandleId, at: u64, out: &mut [u8]) -> Result<(), Stop> {

@@ -163,7 +163,7 @@ module _ (journal : List Logged) (objects new : Objects) (waiting : List Waiting
       (omega (arith, keeps.batches_is, ap length (accepted-push journal (Submitted batch)), length-append (accepted journal) (batch ∷ [])))
       (omega (arith, keeps.few_batches))
       (subst (λ n. AreLeft (journal ++ Submitted batch ∷ []) (waiting ++ waiting_from n 0 batch.queue batch.nodes)) (sym keeps.batches_is)
-        (left_submitted journal waiting batch keeps.left keeps.order.permitted one (kind_of-push journal (Submitted batch)) (λ k w at. (keeps.left.each k w at).fits) fits))
+      (left_submitted journal waiting batch keeps.left keeps.order.permitted one (kind_of-push journal (Submitted batch)) (λ k w at. (keeps.left.each k w at).fits) fits))
 
   -- no node that waits touches a settled object
   apart : (id : ℕ) → IsSettled (log_of journal) (order_of journal) id → (k : ℕ) (w : WaitingNode) → slice_get waiting k ≡ Some w → touches_object w.command id ≡ true → ⊥

@@ -13,7 +13,6 @@ use Rattle.vk_machine.specs.Machine.{stored_in, bytes_at}
 abbrev pair : ℕ × Object → ℕ × List ℕ
 pair e = (e.0, e.1.bytes)
 
-
 mapped : (test : ℕ → Bool) (entries : List (ℕ × Object)) → lookup test (map pair entries) ≡ Rattle.std.specs.Prelude.option_map (λ (x : Object). x.bytes) (lookup test entries)
 mapped test [] = refl
 mapped test (e ∷ entries) = ap (λ o. cond (test e.0) (Some e.1.bytes) o) (mapped test entries) ∙ pick (test e.0) (lookup test entries)

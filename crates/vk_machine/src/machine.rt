@@ -132,8 +132,7 @@ impl Device for Machine {
     fn submit(&mut self, batch: &Batch) -> Result<(), Stop> {
         let copy = batch.copy(self.alloc)?;
         let nodes = batch.nodes.copy(self.alloc)?.into_vec();
-        self.journal
-            .reserve(self.objects.count() + self.waiting.len() + nodes.len() + 1)?;
+        self.journal.reserve(self.objects.count() + self.waiting.len() + nodes.len() + 1)?;
         self.waiting.reserve(nodes.len())?;
         push_all(&mut self.waiting, self.batches, batch.queue, nodes);
         self.journal

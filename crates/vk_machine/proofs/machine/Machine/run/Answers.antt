@@ -16,11 +16,11 @@ execute-requires-clause-fits c =
 
 pub invariant_of-self : goal.invariant_of-self
 invariant_of-self c = (
-    at_end (λ j. Keeps j c.execute.new.objects c.take-node.new.self.nodes c.self.inside.made c.self.inside.batches) c.self.inside.journal.items c.self.inside.journal.items c.push_reserved.new.self.items (Ran c.take-node.result.batch c.take-node.result.node) c.push_reserved.ensures.items refl
-    (subst (λ w. Keeps (c.self.inside.journal.items ++ Ran c.take-node.result.batch c.take-node.result.node ∷ []) c.execute.new.objects w c.self.inside.made c.self.inside.batches) (sym c.take-node.ensures.others)
-    (keeps_ran c.self.inside.journal.items c.self.inside.objects c.execute.new.objects c.self.inside.waiting.nodes c.self.inside.made c.self.inside.batches c.self.invariant.0 (ready_place c.self.inside.waiting.nodes c.args.number) c.take-node.result c.take-node.ensures.node c.take-node.ensures.ready c.execute.ensures)),
-    omega (arith, c.self.invariant.1, c.execute.ensures.count, c.push_reserved.ensures.len, c.push_reserved.ensures.capacity, one_fewer (ready_place c.self.inside.waiting.nodes c.args.number) c.take-node.result c.self.inside.waiting.nodes c.take-node.new.self.nodes c.take-node.ensures.node c.take-node.ensures.others),
-  )
+  at_end (λ j. Keeps j c.execute.new.objects c.take-node.new.self.nodes c.self.inside.made c.self.inside.batches) c.self.inside.journal.items c.self.inside.journal.items c.push_reserved.new.self.items (Ran c.take-node.result.batch c.take-node.result.node) c.push_reserved.ensures.items refl
+      (subst (λ w. Keeps (c.self.inside.journal.items ++ Ran c.take-node.result.batch c.take-node.result.node ∷ []) c.execute.new.objects w c.self.inside.made c.self.inside.batches) (sym c.take-node.ensures.others)
+      (keeps_ran c.self.inside.journal.items c.self.inside.objects c.execute.new.objects c.self.inside.waiting.nodes c.self.inside.made c.self.inside.batches c.self.invariant.0 (ready_place c.self.inside.waiting.nodes c.args.number) c.take-node.result c.take-node.ensures.node c.take-node.ensures.ready c.execute.ensures)),
+  omega (arith, c.self.invariant.1, c.execute.ensures.count, c.push_reserved.ensures.len, c.push_reserved.ensures.capacity, one_fewer (ready_place c.self.inside.waiting.nodes c.args.number) c.take-node.result c.self.inside.waiting.nodes c.take-node.new.self.nodes c.take-node.ensures.node c.take-node.ensures.others),
+)
 
 pub returns-clause-ran : goal.returns-clause-ran
 returns-clause-ran c =

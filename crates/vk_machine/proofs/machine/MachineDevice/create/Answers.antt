@@ -21,17 +21,17 @@ returns-in_err-insert-clause-err c =
 
 pub invariant_of-self-2 : goal.invariant_of-self-2
 invariant_of-self-2 c = (
-    at_end (λ j. Keeps j c.insert.new.self c.self.inside.waiting.nodes (c.self.inside.made + 1) c.self.inside.batches) c.self.inside.journal.items c.reserve.new.self.items c.push_reserved.new.self.items (Created (record { 0 = c.self.inside.made }) c.args.kind) c.push_reserved.ensures.items c.in_ok-reserve.ensures.items
-    (keeps_created c.self.inside.journal.items c.self.inside.objects c.insert.new.self c.self.inside.waiting.nodes c.self.inside.made c.self.inside.batches c.self.invariant.0 (record { 0 = c.self.inside.made }) c.args.kind refl c.requires c.in_ok-insert.ensures.ok),
-    omega (arith, c.self.invariant.1, c.push_reserved.ensures.len, c.push_reserved.ensures.capacity, c.in_ok-insert.ensures.count, c.in_ok-reserve.ensures.ok, c.in_ok-reserve.ensures.len, c.count.ensures, c.len.ensures),
-  )
+  at_end (λ j. Keeps j c.insert.new.self c.self.inside.waiting.nodes (c.self.inside.made + 1) c.self.inside.batches) c.self.inside.journal.items c.reserve.new.self.items c.push_reserved.new.self.items (Created (record { 0 = c.self.inside.made }) c.args.kind) c.push_reserved.ensures.items c.in_ok-reserve.ensures.items
+      (keeps_created c.self.inside.journal.items c.self.inside.objects c.insert.new.self c.self.inside.waiting.nodes c.self.inside.made c.self.inside.batches c.self.invariant.0 (record { 0 = c.self.inside.made }) c.args.kind refl c.requires c.in_ok-insert.ensures.ok),
+  omega (arith, c.self.invariant.1, c.push_reserved.ensures.len, c.push_reserved.ensures.capacity, c.in_ok-insert.ensures.count, c.in_ok-reserve.ensures.ok, c.in_ok-reserve.ensures.len, c.count.ensures, c.len.ensures),
+)
 
 pub returns-clause-logged : goal.returns-clause-logged
 returns-clause-logged c =
     changes_only c.args.self.now _ c.self.inside.objects c.insert.new.self (ap (λ (m : MachineModel). m.stored) (sym c.self.view_is)) refl c.issue.result.0 (Created c.issue.result c.args.kind)
     (c.push_reserved.ensures.items
-      ∙ ap (λ j. j ++ Created (record { 0 = c.self.inside.made }) c.args.kind ∷ []) (c.in_ok-reserve.ensures.items ∙ ap (λ (m : MachineModel). m.journal) c.self.view_is)
-      ∙ ap (λ (h : HandleId). c.args.self.now.journal ++ Created h c.args.kind ∷ []) (sym c.issue.ensures))
+    ∙ ap (λ j. j ++ Created (record { 0 = c.self.inside.made }) c.args.kind ∷ []) (c.in_ok-reserve.ensures.items ∙ ap (λ (m : MachineModel). m.journal) c.self.view_is)
+    ∙ ap (λ (h : HandleId). c.args.self.now.journal ++ Created h c.args.kind ∷ []) (sym c.issue.ensures))
     (λ i differs. c.in_ok-insert.ensures.ok.others i (λ same. differs (same ∙ ap (λ (h : HandleId). h.0) (sym c.issue.ensures))))
 
 pub returns-clause-size : goal.returns-clause-size

@@ -6,9 +6,9 @@ use Rattle.vk_machine.proofs.machine.MachineDevice.turn.Goals as goal
 
 pub returns-then-ready-eq0-clause-turned : goal.returns-then-ready-eq0-clause-turned
 returns-then-ready-eq0-clause-turned c = (
-    record { logged = refl; others = λ id. refl },
-    subst (λ (m : MachineModel). AllRan (journal_of m)) c.self.view_is (all_ran c.self.inside.journal.items c.self.inside.waiting.nodes c.self.invariant.0.left (Rattle.vk_machine.proofs.Calls.none_ready c.ready-ready.result (length c.self.inside.waiting.nodes) c.if-ready-eq0.true c.ready-ready.ensures.some)),
-  )
+  record { logged = refl; others = λ id. refl },
+  subst (λ (m : MachineModel). AllRan (journal_of m)) c.self.view_is (all_ran c.self.inside.journal.items c.self.inside.waiting.nodes c.self.invariant.0.left (Rattle.vk_machine.proofs.Calls.none_ready c.ready-ready.result (length c.self.inside.waiting.nodes) c.if-ready-eq0.true c.ready-ready.ensures.some)),
+)
 
 pub returns-clause-turned : goal.returns-clause-turned
 returns-clause-turned c = turned c.args.self.now _ c.run.new.self c.pick-number.result c.run.result (ap (λ (m : MachineModel). m.journal) c.self.view_is) (ap (λ (m : MachineModel). m.stored) c.self.view_is) c.run.ensures.ran
