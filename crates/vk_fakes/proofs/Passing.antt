@@ -5,7 +5,7 @@ use Rattle.vk_types.specs.declared.stops.Stop.{Stop}
 use Rattle.vk_device.specs.declared.logged.Logged.{Logged}
 use Rattle.vk_device.specs.declared.logged.Turned.{Turned}
 use Rattle.vk_device.specs.declared.logged.Turned.TheVariants.{Ran, Idle}
-use Rattle.vk_device.specs.Effects.{ChangesNothing, Executes, HasTurned}
+use Rattle.vk_device.specs.Effects.{HasTurned}
 
 module _ {D E : Type 0} (journal : D → List Logged) (bytes_of : D → ℕ → List ℕ) (inside : E → D) (old new : E) where
   outside : (result : Result Turned Stop) → HasTurned journal bytes_of (inside old) (inside new) result → HasTurned (λ (e : E). journal (inside e)) (λ (e : E) id. bytes_of (inside e) id) old new result

@@ -1,6 +1,10 @@
 // Devices in memory whose order is told beforehand.
 ghost use Rattle.std.specs.Prelude.{◌≡◌, []};
+ghost use Rattle.vk_device.specs.Faults.{HasCause};
+ghost use Rattle.vk_device.specs.Effects.{HasTurned};
+ghost use Rattle.vk_machine.specs.declared.choice.Choice.TheVariants.{First, Last};
 ghost use Rattle.vk_machine.specs.Machine.{journal_of, bytes_in};
+ghost use Rattle.vk_machine.specs.Turns.{TurnsByChoice};
 
 use std::alloc::Global;
 use vk_device::{Device, Logged, Turned};
@@ -17,7 +21,8 @@ pub struct FakeDevice {
 impl FakeDevice {
     /// A device without objects, which executes the first ready node.
     pub fn first(alloc: Global) -> FakeDevice
-        ensures { journal_of result.machine ≡ [] }
+        ensures journal { journal_of result.machine ≡ [] }
+        ensures choice { result.machine.choice ≡ First }
     {
         FakeDevice {
             machine: Machine::new(alloc, Choice::First),
@@ -26,7 +31,8 @@ impl FakeDevice {
 
     /// A device without objects, which executes the last ready node.
     pub fn last(alloc: Global) -> FakeDevice
-        ensures { journal_of result.machine ≡ [] }
+        ensures journal { journal_of result.machine ≡ [] }
+        ensures choice { result.machine.choice ≡ Last }
     {
         FakeDevice {
             machine: Machine::new(alloc, Choice::Last),
@@ -53,7 +59,11 @@ impl Device for FakeDevice {
         self.machine.submit(batch)
     }
 
-    fn turn(&mut self) -> Result<Turned, Stop> {
+    fn turn(&mut self) -> Result<Turned, Stop>
+        ensures turned { HasTurned (λ f. journal_of f.machine) (λ f id. bytes_in f.machine id) self.old self.new result }
+        ensures chosen { TurnsByChoice self.old.machine self.new.machine result }
+        ensures cause { HasCause 0 0 result }
+    {
         self.machine.turn()
     }
 

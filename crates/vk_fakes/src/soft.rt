@@ -1,6 +1,12 @@
 // A device in memory whose order is drawn.
 ghost use Rattle.std.specs.Prelude.{◌≡◌, []};
+ghost use Rattle.rand_xoshiro.specs.SplitMix64.{splitmix_seed};
+ghost use Rattle.rand_xoshiro.specs.Xoshiro256.{of_seed};
+ghost use Rattle.vk_device.specs.Faults.{HasCause};
+ghost use Rattle.vk_device.specs.Effects.{HasTurned};
+ghost use Rattle.vk_machine.specs.declared.choice.Choice.TheVariants.{Words};
 ghost use Rattle.vk_machine.specs.Machine.{journal_of, bytes_in};
+ghost use Rattle.vk_machine.specs.Turns.{TurnsByChoice};
 
 use rand_core::SeedableRng;
 use rand_xoshiro::Xoshiro256PlusPlus;
@@ -19,7 +25,8 @@ pub struct SoftDevice {
 impl SoftDevice {
     /// A device without objects, whose words are those of the generator of this seed.
     pub fn seeded(alloc: Global, seed: u64) -> SoftDevice
-        ensures { journal_of result.machine ≡ [] }
+        ensures journal { journal_of result.machine ≡ [] }
+        ensures choice { result.machine.choice ≡ Words (of_seed (splitmix_seed 32 seed)) }
     {
         SoftDevice {
             machine: Machine::new(
@@ -49,7 +56,11 @@ impl Device for SoftDevice {
         self.machine.submit(batch)
     }
 
-    fn turn(&mut self) -> Result<Turned, Stop> {
+    fn turn(&mut self) -> Result<Turned, Stop>
+        ensures turned { HasTurned (λ f. journal_of f.machine) (λ f id. bytes_in f.machine id) self.old self.new result }
+        ensures chosen { TurnsByChoice self.old.machine self.new.machine result }
+        ensures cause { HasCause 0 0 result }
+    {
         self.machine.turn()
     }
 

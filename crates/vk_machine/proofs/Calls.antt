@@ -1,6 +1,6 @@
 -- What calls change, as contracts see it.
 use mathlib.Core.Path.{fun_ext}
-use Rattle.std.proofs.Common.{◌≡◌, ◌≢◌, ℕ, zero, suc, ◌+◌, ◌<◌, ◌≤◌, List, [], ◌∷◌, ◌++◌, length, false, refl, sym, ◌∙◌, ap, subst, arith, inl, inr}
+use Rattle.std.proofs.Common.{◌≡◌, ◌≢◌, ℕ, suc, ◌+◌, ◌<◌, ◌≤◌, List, [], ◌∷◌, ◌++◌, length, false, refl, sym, ◌∙◌, ap, subst, arith, inl, inr}
 use Rattle.std.specs.Prelude.{◌⊎◌, Option, Some, None, option_map, slice_get, Contains, Result, Ok, Err}
 use Rattle.std.specs.List.{remove}
 use Rattle.std.specs.Result.{OnErr}
@@ -8,24 +8,25 @@ use Rattle.std.proofs.lemmas.Bool.{cases_eq}
 use Rattle.vk_types.specs.declared.handles.Kind.{Kind}
 use Rattle.vk_types.specs.declared.handles.Kind.TheVariants.{Buffer, Image}
 use Rattle.vk_types.specs.declared.ops.Node.{Node}
-use Rattle.vk_types.specs.declared.stops.Stop.{Stop}
-use Rattle.vk_model.specs.Fitting.{NodeFits, size_of}
+use Rattle.vk_model.specs.Fitting.{size_of}
 use Rattle.vk_model.specs.Log.{Command, IsReady}
 use Rattle.vk_model.specs.Meaning.{apply, ContentsAgree}
 use Rattle.vk_objects.specs.declared.objects.Object.{Object}
 use Rattle.vk_objects.specs.declared.objects.Objects.{Objects}
 use Rattle.vk_objects.specs.Objects as store
 use Rattle.vk_ready.specs.declared.nodes.WaitingNode.{WaitingNode}
-use Rattle.vk_ready.specs.Ready.{edge, ready_place}
+use Rattle.vk_ready.specs.Ready.{edge, ready_place, ready_places}
+use Rattle.vk_machine.specs.Choices.{chosen, next_choice}
+use Rattle.vk_machine.specs.Turns.{TurnsByChoice}
 use Rattle.vk_device.specs.declared.logged.Logged.{Logged}
 use Rattle.vk_device.specs.declared.logged.Logged.TheVariants.{Ran}
 use Rattle.vk_device.specs.declared.logged.Turned.{Turned}
 use Rattle.vk_device.specs.Journal.{kind_of, ReachesTo}
 use Rattle.vk_device.specs.Order.{log_of, order_of, kinds_of, contents, AllRan}
-use Rattle.vk_device.specs.Effects.{ChangesNothing, ChangesOnly, Adds, Executes, HasTurned}
+use Rattle.vk_device.specs.Effects.{ChangesNothing, ChangesOnly, Executes, HasTurned}
 use Rattle.vk_device.proofs.Fitting.{fits_lives}
-use Rattle.vk_machine.specs.Machine.{MachineModel, Keeps, AreLeft, LiesAt, place_in, stored_in, bytes_at, journal_of, bytes_in, waiting_from, RunsReady}
-use Rattle.vk_machine.proofs.Stored.{stored_bytes, all_stored_bytes}
+use Rattle.vk_machine.specs.Machine.{MachineModel, Keeps, AreLeft, LiesAt, stored_in, bytes_at, journal_of, bytes_in, waiting_from, RunsReady}
+use Rattle.vk_machine.proofs.Stored.{stored_bytes}
 use Rattle.vk_machine.proofs.Keeping.{ready, agree}
 
 -- an entry behind a journal
@@ -166,3 +167,15 @@ keeps_nothing journal objects waiting is none empty =
 pub length-waiting_from : (batch node queue : ℕ) (nodes : List Node) → length (waiting_from batch node queue nodes) ≡ length nodes
 length-waiting_from batch node queue [] = refl
 length-waiting_from batch node queue (n ∷ nodes) = ap suc (length-waiting_from batch (suc node) queue nodes)
+
+-- the node that was chosen, whatever result names it
+pub by_choice : (old seen other new : MachineModel) (number : ℕ) (result : Turned) → seen ≡ old → other.waiting ≡ seen.waiting → number ≡ chosen seen.choice (length (ready_places seen.waiting)) → other.choice ≡ next_choice seen.choice → new.choice ≡ other.choice → RunsReady other new number result → TurnsByChoice old new (Ok result)
+by_choice old seen other new number result is waiting_is number_is next same ran =
+    subst (λ m. TurnsByChoice m new (Ok result)) is (subst (λ t. TurnsByChoice seen new (Ok t)) (sym ran.turned_is) (record {
+      waiting_node = ran.node;
+      at = subst (λ w. slice_get w (ready_place w (chosen seen.choice (length (ready_places seen.waiting)))) ≡ Some ran.node) waiting_is (subst (λ n. slice_get other.waiting (ready_place other.waiting n) ≡ Some ran.node) number_is ran.at);
+      batch_is = refl;
+      node_is = refl;
+      waiting = ran.waiting ∙ ap (λ w. remove w (ready_place w number)) waiting_is ∙ ap (λ n. remove seen.waiting (ready_place seen.waiting n)) number_is;
+      choice = same ∙ next;
+    }))

@@ -1,7 +1,7 @@
 -- A device in memory keeps what it keeps, call by call.
-use Rattle.std.proofs.Common.{◌≡◌, ◌≢◌, ℕ, zero, suc, ◌+◌, ◌<◌, ◌≤◌, ◌==◌, List, [], ◌∷◌, ◌++◌, length, Bool, true, false, cond, eqb, refl, sym, ◌∙◌, ap, subst, arith, inl, inr, length-append, eq-eqb}
-use Rattle.std.specs.Prelude.{◌⊎◌, Option, Some, None, option_map, slice_get, Contains, IsSome, All, unwrap_or, replicate}
-use Rattle.std.specs.List.{remove, list_any}
+use Rattle.std.proofs.Common.{◌≡◌, ◌≢◌, ℕ, ◌+◌, ◌<◌, ◌≤◌, ◌==◌, List, [], ◌∷◌, ◌++◌, length, Bool, true, false, cond, refl, sym, ◌∙◌, ap, subst, arith, inl, inr, length-append, eq-eqb}
+use Rattle.std.specs.Prelude.{◌⊎◌, Option, Some, None, option_map, slice_get, Contains, IsSome, All, unwrap_or}
+use Rattle.std.specs.List.{remove}
 use Rattle.std.proofs.lemmas.List.{append-nil, length-replicate}
 use Rattle.std.proofs.lemmas.Bool.{cases_eq, ne_eqb, cases_Bool, false≢true}
 use Rattle.std.proofs.lemmas.Option.{same_Some, slice_get_within}
@@ -13,7 +13,7 @@ use Rattle.vk_types.specs.declared.batches.Batch.{Batch}
 use Rattle.cells.specs.Contents.{overwritten}
 use Rattle.vk_model.specs.Fitting.{IsKind, NodeFits, size_of}
 use Rattle.vk_model.specs.Log.{Item, Command, touches_object, item_edge, HasEdge, IsReady}
-use Rattle.vk_model.specs.Meaning.{apply, touches_id, IsSettled, ContentsAgree}
+use Rattle.vk_model.specs.Meaning.{apply, IsSettled, ContentsAgree}
 use Rattle.vk_model.proofs.SameKinds.{apply_same_kinds}
 use Rattle.vk_model.proofs.Device.{ready_by_edges, touches_id_of}
 use Rattle.vk_model.proofs.Parts.{length-overwritten}
@@ -24,8 +24,8 @@ use Rattle.vk_ready.specs.declared.nodes.WaitingNode.{WaitingNode}
 use Rattle.vk_ready.specs.Ready.{edge}
 use Rattle.vk_device.specs.declared.logged.Logged.{Logged}
 use Rattle.vk_device.specs.declared.logged.Logged.TheVariants.{Created, Wrote, Submitted, Ran, Fetched, Destroyed}
-use Rattle.vk_device.specs.Journal.{objects_after, kind_of, create_of, create_of_one, creates, creates_of, accepts, accepted, ReachesTo}
-use Rattle.vk_device.specs.Order.{entry_items, log_of, order_of, executes, kinds_of, contents, place_of, IsOfOneQueue}
+use Rattle.vk_device.specs.Journal.{objects_after, kind_of, create_of, create_of_one, creates_of, accepts, accepted, ReachesTo}
+use Rattle.vk_device.specs.Order.{log_of, order_of, kinds_of, contents, IsOfOneQueue}
 use Rattle.vk_device.proofs.Laws.{kind_of-push, creates-push, creates_of-push, unused}
 use Rattle.vk_device.proofs.Fitting.{fits_lives, touched_lives}
 use Rattle.vk_device.proofs.Running.{in_order_created, in_order_fetched, in_order_destroyed}

@@ -1,27 +1,25 @@
 -- The waiting nodes stay what is left of the log.
-use Rattle.std.proofs.Common.{◌≡◌, ◌≢◌, ℕ, zero, suc, ◌+◌, ◌<◌, ◌≤◌, List, [], ◌∷◌, ◌++◌, length, map, true, false, refl, sym, ◌∙◌, ap, subst, arith, inl, inr, append_assoc, length-append, eqb, cond, eq-eqb}
-use Rattle.std.specs.Prelude.{◌⊎◌, ◌||◌, Option, Some, None, slice_get, Contains, option_and_then, IsSome, All}
-use Rattle.std.specs.List.{remove, list_any}
+use Rattle.std.proofs.Common.{◌≡◌, ℕ, zero, suc, ◌+◌, ◌<◌, List, [], ◌∷◌, ◌++◌, length, refl, sym, ◌∙◌, ap, subst, arith, inl, inr, length-append}
+use Rattle.std.specs.Prelude.{◌⊎◌, Option, Some, None, slice_get, Contains, option_and_then}
 use Rattle.std.proofs.lemmas.List.{append-nil}
 use Rattle.std.proofs.lemmas.List.Elements.{Contains-append_left, Contains-append_cases}
-use Rattle.std.proofs.lemmas.Option.{slice_get-map, slice_get_within}
-use Rattle.std.proofs.lemmas.Bool.{cases_eq, ne_eqb, false≢true, or_left, or_right}
+use Rattle.std.proofs.lemmas.Option.{slice_get_within}
+use Rattle.std.proofs.lemmas.Bool.{cases_eq}
 use Rattle.vk_types.specs.declared.handles.HandleId.{HandleId}
-use Rattle.vk_types.specs.declared.handles.Kind.{Kind}
 use Rattle.vk_types.specs.declared.ops.Node.{Node}
 use Rattle.vk_types.specs.declared.batches.Batch.{Batch}
 use Rattle.vk_model.specs.Fitting.{NodeFits}
-use Rattle.vk_model.specs.Log.{Item, Command, HostWrite, touches_object}
-use Rattle.vk_model.proofs.Device.{get_front, get_next}
-use Rattle.vk_model.proofs.Places.{contains_none, contains_head, contains_cons_cases}
+use Rattle.vk_model.specs.Log.{Command, HostWrite}
+use Rattle.vk_model.proofs.Device.{get_front}
+use Rattle.vk_model.proofs.Places.{contains_none, contains_cons_cases}
 use Rattle.vk_ready.specs.declared.nodes.WaitingNode.{WaitingNode}
 use Rattle.vk_device.specs.declared.logged.Logged.{Logged}
-use Rattle.vk_device.specs.declared.logged.Logged.TheVariants.{Created, Wrote, Submitted, Ran, Fetched, Destroyed}
+use Rattle.vk_device.specs.declared.logged.Logged.TheVariants.{Wrote}
 use Rattle.vk_device.specs.Journal.{accepts, accepted, node_at, kind_of}
-use Rattle.vk_device.specs.Order.{entry_items, log_of, order_of, executes, batch_start, place_of}
+use Rattle.vk_device.specs.Order.{entry_items, log_of, order_of, executes}
 use Rattle.vk_device.proofs.Orders.{log_of-push, order_of-push}
-use Rattle.vk_machine.specs.Machine.{place_in, IsLeft, LiesAt, AreLeft, waiting_from}
-use Rattle.vk_machine.proofs.Places.{accepted-push, start_stays, start_next}
+use Rattle.vk_machine.specs.Machine.{place_in, IsLeft, LiesAt, AreLeft}
+use Rattle.vk_machine.proofs.Places.{accepted-push, start_stays}
 
 -- an accepted node is one of an accepted batch
 node_in : (batches : List Batch) (batch node : ℕ) (n : Node) → node_at batches batch node ≡ Some n → batch < length batches

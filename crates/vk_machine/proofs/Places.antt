@@ -1,17 +1,12 @@
 -- Places of nodes in a log that grows.
-use Rattle.std.proofs.Common.{◌≡◌, ◌≢◌, ℕ, zero, suc, ◌+◌, ◌<◌, ◌≤◌, List, [], ◌∷◌, ◌++◌, fold, length, map, refl, sym, ◌∙◌, ap, subst, arith, inl, inr, append_assoc, length-append}
-use Rattle.std.specs.Prelude.{Option, Some, None, slice_get, option_and_then}
+use Rattle.std.proofs.Common.{◌≡◌, ℕ, zero, suc, ◌+◌, ◌<◌, List, [], ◌∷◌, ◌++◌, fold, length, refl, sym, ◌∙◌, ap, arith, append_assoc, length-append}
 use Rattle.std.proofs.lemmas.List.{append-nil}
 use Rattle.std.proofs.lemmas.List.Sums.{fold_push}
-use Rattle.std.proofs.lemmas.Option.{slice_get-map, slice_get_within}
-use Rattle.vk_types.specs.declared.ops.Node.{Node}
 use Rattle.vk_types.specs.declared.batches.Batch.{Batch}
-use Rattle.vk_model.specs.Log.{Item, Command, Wait, Signal}
-use Rattle.vk_model.proofs.Device.{get_front, get_next}
 use Rattle.vk_device.specs.declared.logged.Logged.{Logged}
 use Rattle.vk_device.specs.declared.logged.Logged.TheVariants.{Created, Wrote, Submitted, Ran, Fetched, Destroyed}
-use Rattle.vk_device.specs.Journal.{accepts, accepted, node_at}
-use Rattle.vk_device.specs.Order.{entry_items, log_of, batch_start, place_of}
+use Rattle.vk_device.specs.Journal.{accepts, accepted}
+use Rattle.vk_device.specs.Order.{entry_items, log_of, batch_start}
 
 -- Folds that append
 

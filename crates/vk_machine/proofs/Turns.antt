@@ -1,5 +1,5 @@
 -- What is left after a submission, and after a turn.
-use Rattle.std.proofs.Common.{◌≡◌, ◌≢◌, ℕ, zero, suc, ◌+◌, ◌-◌, ◌<◌, ◌≤◌, List, [], ◌∷◌, ◌++◌, length, map, refl, sym, ◌∙◌, ap, subst, arith, inl, inr, append_assoc, length-append}
+use Rattle.std.proofs.Common.{◌≡◌, ◌≢◌, ℕ, zero, suc, ◌+◌, ◌-◌, ◌<◌, ◌≤◌, List, [], ◌∷◌, ◌++◌, length, map, refl, sym, ◌∙◌, ap, subst, arith, inl, inr, length-append}
 use Rattle.std.specs.Prelude.{◌⊎◌, Option, Some, None, slice_get, Contains, option_and_then, All}
 use Rattle.std.specs.List.{remove}
 use Rattle.std.proofs.lemmas.List.{append-nil}
@@ -15,12 +15,12 @@ use Rattle.vk_ready.specs.declared.nodes.WaitingNode.{WaitingNode}
 use Rattle.vk_ready.proofs.Removal.{reads_below, reads_above}
 use Rattle.vk_device.specs.declared.logged.Logged.{Logged}
 use Rattle.vk_device.specs.declared.logged.Logged.TheVariants.{Submitted, Ran}
-use Rattle.vk_device.specs.Journal.{accepts, accepted, node_at, kind_of}
-use Rattle.vk_device.specs.Order.{entry_items, log_of, order_of, executes, batch_start, place_of, IsOfOneQueue}
+use Rattle.vk_device.specs.Journal.{accepted, node_at, kind_of}
+use Rattle.vk_device.specs.Order.{entry_items, log_of, order_of, batch_start, IsOfOneQueue}
 use Rattle.vk_device.proofs.Orders.{log_of-push, order_of-push, contains_last}
 use Rattle.vk_machine.specs.Machine.{place_in, IsLeft, LiesAt, AreLeft, waiting_from}
 use Rattle.vk_machine.proofs.Places.{accepted-push, start_next}
-use Rattle.vk_machine.proofs.Left.{left_stays, still_rising, still_lies, old_place, place_stays}
+use Rattle.vk_machine.proofs.Left.{left_stays, still_rising, old_place, place_stays}
 
 -- Lists
 

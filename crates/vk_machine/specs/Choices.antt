@@ -1,5 +1,5 @@
 -- Which of the ready nodes a choice names.
-use Rattle.std.specs.Prelude.{ℕ, ◌-◌, ◌%◌, List}
+use Rattle.std.specs.Prelude.{ℕ, ◌-◌, ◌%◌}
 use Rattle.rand_xoshiro.specs.Xoshiro256.{plus_plus}
 use Rattle.vk_machine.specs.declared.choice.Choice.{Choice}
 use Rattle.vk_machine.specs.declared.choice.Choice.TheVariants.{First, Last, Words}

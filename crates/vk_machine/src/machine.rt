@@ -1,7 +1,10 @@
 // The device in memory.
 ghost use Rattle.std.specs.Prelude.{◌≡◌, ◌+◌, ◌<◌, ◌≤◌, ◌++◌, [], length};
 ghost use Rattle.vk_ready.specs.Ready.{ready_places, ready_place};
-ghost use Rattle.vk_machine.specs.Machine.{waiting_from, RunsReady};
+ghost use Rattle.vk_device.specs.Faults.{HasCause};
+ghost use Rattle.vk_device.specs.Effects.{HasTurned};
+ghost use Rattle.vk_machine.specs.Machine.{journal_of, bytes_in, waiting_from, RunsReady};
+ghost use Rattle.vk_machine.specs.Turns.{TurnsByChoice};
 
 use crate::Choice;
 use cells::Bytes;
@@ -141,7 +144,12 @@ impl Device for Machine {
         Ok(())
     }
 
-    fn turn(&mut self) -> Result<Turned, Stop> {
+    /// Executes the ready node that the choice names.
+    fn turn(&mut self) -> Result<Turned, Stop>
+        ensures turned { HasTurned journal_of bytes_in self.old self.new result }
+        ensures chosen { TurnsByChoice self.old self.new result }
+        ensures cause { HasCause 0 0 result }
+    {
         let ready = self.waiting.ready();
         if ready == 0 {
             return Ok(Turned::Idle);

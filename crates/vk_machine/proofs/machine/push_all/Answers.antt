@@ -1,5 +1,4 @@
-use Rattle.std.proofs.Common.{◌≡◌, ◌+◌, ◌++◌, [], ◌∷◌, ℕ, length, sym, ◌∙◌, ap, arith, append_assoc, length-append}
-use Rattle.vk_ready.specs.declared.nodes.WaitingNode.{WaitingNode}
+use Rattle.std.proofs.Common.{◌≡◌, ◌+◌, ◌++◌, [], ◌∷◌, length, sym, ◌∙◌, ap, arith, append_assoc, length-append}
 use Rattle.vk_machine.specs.Machine.{waiting_from}
 use Rattle.vk_machine.proofs.Calls.{waiting_from-push}
 use Rattle.vk_machine.proofs.machine.push_all.Goals as goal

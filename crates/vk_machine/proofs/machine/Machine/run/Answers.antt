@@ -1,9 +1,8 @@
-use Rattle.std.proofs.Common.{◌≡◌, ◌++◌, [], ◌∷◌, ℕ, refl, sym, ◌∙◌, ap, arith, subst}
-use Rattle.vk_model.specs.Fitting.{NodeFits}
+use Rattle.std.proofs.Common.{◌++◌, [], ◌∷◌, refl, sym, arith, subst}
 use Rattle.vk_ready.specs.Ready.{ready_place}
 use Rattle.vk_device.specs.declared.logged.Logged.TheVariants.{Ran}
 use Rattle.vk_device.specs.Journal.{kind_of}
-use Rattle.vk_machine.specs.Machine.{MachineModel, Keeps, RunsReady, journal_of, bytes_in}
+use Rattle.vk_machine.specs.Machine.{Keeps}
 use Rattle.vk_machine.proofs.Fits.{fits_same}
 use Rattle.vk_machine.proofs.Keeping.{keeps_ran}
 use Rattle.vk_machine.proofs.Calls.{at_end, runs_ready, one_fewer}

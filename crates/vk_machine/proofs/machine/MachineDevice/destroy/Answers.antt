@@ -1,4 +1,4 @@
-use Rattle.std.proofs.Common.{◌≡◌, ◌++◌, [], ◌∷◌, refl, sym, ◌∙◌, ap, arith, subst, IsSome}
+use Rattle.std.proofs.Common.{◌++◌, [], ◌∷◌, refl, sym, ◌∙◌, ap, arith, subst, IsSome}
 use Rattle.vk_types.specs.declared.handles.HandleId.{HandleId}
 use Rattle.vk_model.specs.Meaning.{IsSettled}
 use Rattle.vk_device.specs.declared.logged.Logged.TheVariants.{Destroyed}

@@ -1,4 +1,4 @@
-use Rattle.std.proofs.Common.{◌≡◌, ◌+◌, ◌++◌, [], ◌∷◌, ◌-◌, take, drop, length, refl, sym, ◌∙◌, ap, arith, subst}
+use Rattle.std.proofs.Common.{◌≡◌, ◌+◌, ◌-◌, take, drop, length, refl, sym, ◌∙◌, ap, arith, subst}
 use Rattle.std.proofs.lemmas.List.{take_all, length-drop}
 use Rattle.vk_device.specs.declared.logged.Logged.TheVariants.{Fetched}
 use Rattle.vk_device.specs.Journal.{kind_of, ReachesTo}

@@ -1,7 +1,8 @@
-use Rattle.std.proofs.Common.{◌≡◌, ◌+◌, [], ℕ, length, refl, sym, ◌∙◌, ap, arith, subst}
+use Rattle.std.proofs.Common.{length, refl, ◌∙◌, ap, subst}
 use Rattle.vk_device.specs.Order.{AllRan}
 use Rattle.vk_machine.specs.Machine.{MachineModel, journal_of}
-use Rattle.vk_machine.proofs.Calls.{turned, all_ran}
+use Rattle.vk_machine.specs.Choices.{chosen}
+use Rattle.vk_machine.proofs.Calls.{turned, all_ran, by_choice}
 use Rattle.vk_machine.proofs.machine.MachineDevice.turn.Goals as goal
 
 pub returns-then-ready-eq0-clause-turned : goal.returns-then-ready-eq0-clause-turned
@@ -12,3 +13,6 @@ returns-then-ready-eq0-clause-turned c = (
 
 pub returns-clause-turned : goal.returns-clause-turned
 returns-clause-turned c = turned c.args.self.now _ c.run.new.self c.pick-number.result c.run.result (ap (λ (m : MachineModel). m.journal) c.self.view_is) (ap (λ (m : MachineModel). m.stored) c.self.view_is) c.run.ensures.ran
+
+pub returns-clause-chosen : goal.returns-clause-chosen
+returns-clause-chosen c = by_choice c.args.self.now _ _ c.run.new.self c.pick-number.result c.run.result c.self.view_is refl (c.pick-number.ensures.number ∙ ap (chosen c.self.inside.choice) c.ready-ready.ensures.count) c.pick-number.ensures.next c.run.ensures.choice c.run.ensures.ran

@@ -1,4 +1,4 @@
-use Rattle.std.proofs.Common.{◌≡◌, ◌+◌, ◌≤◌, ◌++◌, [], ◌∷◌, length, refl, sym, ◌∙◌, ap, arith, subst}
+use Rattle.std.proofs.Common.{◌+◌, ◌≤◌, ◌++◌, [], ◌∷◌, length, refl, sym, ◌∙◌, ap, arith, subst}
 use Rattle.cells.specs.Contents.{overwritten}
 use Rattle.vk_model.specs.Meaning.{IsSettled}
 use Rattle.vk_objects.specs.Objects as store
