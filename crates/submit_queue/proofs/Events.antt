@@ -33,8 +33,8 @@ has_run-kept h e k i ran = has_run-then h e k i ∙ or_left (has_run h k i) (is_
 pub has_run-now : (h : List Event) (k i : ℕ) → has_run (h ++ Ran k i ∷ []) k i ≡ true
 has_run-now h k i = has_run-then h (Ran k i) k i ∙ or_right (has_run h k i) _ (and_from (k == k) (i == i) (eq-eqb k k refl) (eq-eqb i i refl))
 
-pub is_retired-then : (h : List Event) (e : Event) (k : ℕ) → is_retired (h ++ e ∷ []) k ≡ (is_retired h k || is_retirement k e)
-is_retired-then h e k = list_any-append (is_retirement k) h (e ∷ []) ∙ ap (λ b. is_retired h k || b) (or_false (is_retirement k e))
+pub is_retired-then : (h : List Event) (e : Event) (i n : ℕ) → is_retired (h ++ e ∷ []) i n ≡ (is_retired h i n || is_retirement i n e)
+is_retired-then h e i n = list_any-append (is_retirement i n) h (e ∷ []) ∙ ap (λ b. is_retired h i n || b) (or_false (is_retirement i n e))
 
-pub is_retired-same : (h : List Event) (e : Event) (k : ℕ) → is_retirement k e ≡ false → is_retired (h ++ e ∷ []) k ≡ is_retired h k
-is_retired-same h e k none = is_retired-then h e k ∙ (ap (λ b. is_retired h k || b) none ∙ or_false (is_retired h k))
+pub is_retired-same : (h : List Event) (e : Event) (i n : ℕ) → is_retirement i n e ≡ false → is_retired (h ++ e ∷ []) i n ≡ is_retired h i n
+is_retired-same h e i n none = is_retired-then h e i n ∙ (ap (λ b. is_retired h i n || b) none ∙ or_false (is_retired h i n))

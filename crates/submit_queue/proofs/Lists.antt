@@ -63,3 +63,9 @@ any_from p xs zero j x lt at e = absurd (omega (arith, lt))
 any_from p [] (suc n) j x lt at e = absurd (not_Some x at)
 any_from p (y ∷ xs) (suc n) zero x lt at e = or_left (p y) (list_any p (take n xs)) (ap p (same_Some y x at) ∙ e)
 any_from p (y ∷ xs) (suc n) (suc j) x lt at e = or_right (p y) (list_any p (take n xs)) (any_from p xs n j x (omega (arith, lt)) at e)
+
+pub slice_get-take : {X : Type 0} (xs : List X) (n j : ℕ) (x : X) → j < n → slice_get xs j ≡ Some x → slice_get (take n xs) j ≡ Some x
+slice_get-take xs zero j x lt e = absurd (omega (arith, lt))
+slice_get-take [] (suc n) j x lt e = e
+slice_get-take (y ∷ xs) (suc n) zero x lt e = e
+slice_get-take (y ∷ xs) (suc n) (suc j) x lt e = slice_get-take xs n j x (omega (arith, lt)) e

@@ -1,5 +1,5 @@
 -- The numbers of the batches of an index.
-use Rattle.std.proofs.Common.{◌≡◌, ℕ, zero, suc, ◌+◌, ◌<◌, ◌≤◌, ◌==◌, cond, List, [], ◌∷◌, ◌++◌, length, take, refl, sym, subst, ◌∙◌, inl, inr, arith}
+use Rattle.std.proofs.Common.{◌≡◌, ℕ, zero, suc, ◌+◌, ◌<◌, ◌≤◌, ◌==◌, cond, List, [], ◌∷◌, ◌++◌, length, take, refl, sym, ap, subst, ◌∙◌, inl, inr, arith}
 use Rattle.std.specs.Prelude.{◌⊎◌, Some, slice_get}
 use Rattle.std.proofs.lemmas.Bool.{cases_eq, cases_lt, cond-true, cond-false, eq-eqb, ne_eqb}
 use Rattle.std.proofs.lemmas.List.{take-append-le, take_all}
@@ -7,8 +7,8 @@ use Rattle.std.proofs.lemmas.List.Sums.{fold-append}
 use Rattle.std.proofs.lemmas.Option.{slice_get_within}
 use Rattle.vk_types.specs.declared.batches.Batch.{Batch}
 use Rattle.submit_queue.specs.Histories.{last_number}
-use Rattle.submit_queue.specs.Kept.{AreNumbered}
-use Rattle.submit_queue.proofs.Lists.{not_Some, slice_get-left, slice_get-right, slice_get-then, some_at, take-then}
+use Rattle.submit_queue.specs.Kept.{AreNumbered, HasNumber}
+use Rattle.submit_queue.proofs.Lists.{not_Some, slice_get-left, slice_get-right, slice_get-then, slice_get-take, some_at, take-then}
 
 last_number-then : (xs : List Batch) (b : Batch) (i : ℕ) → last_number (xs ++ b ∷ []) i ≡ cond (b.index == i) b.number (last_number xs i)
 last_number-then xs b i = fold-append (λ n (c : Batch). cond (c.index == i) c.number n) 0 xs (b ∷ [])
@@ -18,14 +18,6 @@ last_number-own xs b i e = last_number-then xs b i ∙ cond-true (b.index == i) 
 
 pub last_number-other : (xs : List Batch) (b : Batch) (i : ℕ) → (b.index ≡ i → ⊥) → last_number (xs ++ b ∷ []) i ≡ last_number xs i
 last_number-other xs b i e = last_number-then xs b i ∙ cond-false (b.index == i) b.number (last_number xs i) (ne_eqb b.index i e)
-
--- the index has a batch with this number
-pub record HasNumber (xs : List Batch) (index number : ℕ) : Type 0 where
-  pub place : ℕ
-  pub batch : Batch
-  pub at : slice_get xs place ≡ Some batch
-  pub of_index : batch.index ≡ index
-  pub of_number : batch.number ≡ number
 
 -- an index has batches with the numbers from 1 to its last one, and no other
 pub record IsCounted (xs : List Batch) : Type 0 where
@@ -99,3 +91,23 @@ numbered-then xs b numbered next k c at = go (slice_get-then xs b k c at)
     go (inr new) =
         let e : take k (xs ++ b ∷ []) ≡ xs = take-append-le k xs (b ∷ []) (omega (arith, new.0)) ∙ take_all k xs (omega (arith, new.0)) in
         subst (λ l. c.number ≡ last_number l c.index + 1) (sym e) (subst (λ (d : Batch). d.number ≡ last_number xs d.index + 1) (sym new.1) next)
+
+-- the numbers of an index rise
+pub rises : (xs : List Batch) → AreNumbered xs → (j k : ℕ) (b c : Batch) → j < k → slice_get xs j ≡ Some b → slice_get xs k ≡ Some c → b.index ≡ c.index → b.number < c.number
+rises xs numbered j k b c lt at_j at_k same =
+    let before : IsCounted (take k xs) = counted xs numbered k (omega (arith, slice_get_within xs k c at_k)) in
+    let below : b.number ≤ last_number (take k xs) b.index = before.below j b (slice_get-take xs k j b lt at_j) in
+    let equal : last_number (take k xs) b.index ≡ last_number (take k xs) c.index = ap (last_number (take k xs)) same in
+    omega (arith, below, equal, numbered k c at_k)
+
+-- the last number is no more than the batches are
+pub last_number-le : (xs : List Batch) → AreNumbered xs → (i n : ℕ) → n ≤ length xs → last_number (take n xs) i ≤ n
+last_number-le xs numbered i zero le = omega arith
+last_number-le xs numbered i (suc n) le =
+    let s = some_at xs n (omega (arith, le)) in
+    let ih : (k : ℕ) → last_number (take n xs) k ≤ n = λ k. last_number-le xs numbered k n (omega (arith, le)) in
+    subst (λ l. last_number l i ≤ suc n) (sym (take-then xs n s.0 s.1)) (go s.0 (numbered n s.0 s.1) ih (cases_eq s.0.index i))
+  where
+    go : (b : Batch) → b.number ≡ last_number (take n xs) b.index + 1 → ((k : ℕ) → last_number (take n xs) k ≤ n) → (b.index ≡ i) ⊎ (b.index ≡ i → ⊥) → last_number (take n xs ++ b ∷ []) i ≤ suc n
+    go b next before (inl own) = omega (arith, last_number-own (take n xs) b i own, next, before b.index)
+    go b next before (inr other) = omega (arith, last_number-other (take n xs) b i other, before i)

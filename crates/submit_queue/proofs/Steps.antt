@@ -1,18 +1,18 @@
 -- What a queue keeps, event by event.
-use Rattle.std.proofs.Common.{◌≡◌, ℕ, suc, ◌+◌, ◌-◌, ◌<◌, ◌≤◌, ◌^◌, ◌==◌, true, false, List, [], ◌∷◌, ◌++◌, length, map, take, set, replicate, refl, sym, ap, subst, ◌∙◌, inl, inr, arith}
-use Rattle.std.specs.Prelude.{◌⊎◌, ◌||◌, min, nat_lt, Some, slice_get, slice_index, option_map, IfSome}
+use Rattle.std.proofs.Common.{◌≡◌, ℕ, zero, suc, ◌+◌, ◌-◌, ◌<◌, ◌≤◌, ◌^◌, ◌==◌, Bool, true, false, cond, List, [], ◌∷◌, ◌++◌, length, map, take, set, replicate, refl, sym, ap, subst, ◌∙◌, inl, inr, arith}
+use Rattle.std.specs.Prelude.{◌⊎◌, ◌||◌, min, Some, slice_get, slice_index, option_map, IfSome}
 use Rattle.std.specs.List.{list_any}
-use Rattle.std.proofs.lemmas.Bool.{not-true, not_from_false, eqb-false, cases_eq, cases_lt, cases_order, false≢true, lt-ltb, le-ltb, ltb-true, ne_eqb, eq-eqb, or_left, or_right, or_from, and_left, and_right}
+use Rattle.std.proofs.lemmas.Bool.{and_from, and_parts, or_cases, eqb-true, not-true, not_from_false, eqb-false, cases_eq, cases_lt, false≢true, ne_eqb, eq-eqb, or_left, or_right, false_from_ne_true, and_left, and_right}
 use Rattle.std.proofs.lemmas.List.{append_assoc, map-append, length-append, length-map, take-append-le, take_all, get_or-replicate, get_or-set_same, get_or-set_other}
 use Rattle.std.proofs.lemmas.Option.{slice_get_within, slice_get-map}
 use Rattle.vk_types.specs.declared.batches.Batch.{Batch}
 use Rattle.submit_queue.specs.declared.pending.Pending.{Pending}
-use Rattle.submit_queue.specs.Histories.{Event, Pushed, Accepted, Ran, Retired, batches, accepted, has_run, is_retired, item_count, last_number, first_flushed, MayPush, MayAccept, MayRun, CanRetire, IsCompleted, IsLeft}
-use Rattle.submit_queue.specs.Kept.{batch_of, not_run, LeftAre, AreNumbered, IsKept, lowered, has_left}
-use Rattle.submit_queue.proofs.Lists.{same_Some, not_Some, slice_get-right, slice_get-before, slice_get-then, some_at, any_at, any_from}
+use Rattle.submit_queue.specs.Histories.{Event, is_retirement, Pushed, Accepted, Ran, Retired, batches, accepted, has_run, is_retired, item_count, last_number, first_flushed, MayPush, MayAccept, MayRun, CanRetire, IsCompleted, completed, reach, IsLeft}
+use Rattle.submit_queue.specs.Kept.{batch_of, not_run, LeftAre, AreNumbered, IsKept, HasNumber, lowered, has_left}
+use Rattle.submit_queue.proofs.Lists.{same_Some, not_Some, slice_get-left, slice_get-right, slice_get-before, slice_get-then, some_at, any_at, any_from}
 use Rattle.submit_queue.proofs.Events.{batches-then, batches-same, accepted-then, has_run-same, has_run-kept, has_run-now, is_retired-then, is_retired-same}
 use Rattle.submit_queue.proofs.Counts.{not_run-none, not_run-all, not_run-done, not_run-some, LeftAre-same, LeftAre-push, LeftAre-at, LeftAre-run, map-lowered, length-lowered}
-use Rattle.submit_queue.proofs.Numbers.{IsCounted, HasNumber, counted, numbered-then, last_number-own, last_number-other}
+use Rattle.submit_queue.proofs.Numbers.{IsCounted, counted, numbered-then, rises, last_number-own, last_number-other, last_number-le}
 
 -- no history is kept by a new queue but the empty one
 pub new_kept : IsKept [] [] 0 0 (replicate 64 0)
@@ -20,7 +20,8 @@ new_kept = record {
   past = [];
   pushed = refl;
   count = refl;
-  gone = λ k. sym (le-ltb k 0 (omega arith));
+  gone = λ k b at. absurd (not_Some b at);
+  no_other = λ i n was. absurd (false≢true was);
   taken = refl;
   within = omega arith;
   done = λ k i b at lt. absurd (not_Some b at);
@@ -30,6 +31,15 @@ new_kept = record {
   one_queue = λ k b at. absurd (not_Some b at);
   completed = λ i lt. get_or-replicate 64 i 0 0 lt;
 }
+
+-- a reach ends where the test fails for the first time
+reach_is : (test : ℕ → Bool) (last : ℕ) → ((n : ℕ) → 1 ≤ n → n ≤ last → test n ≡ true) → test (suc last) ≡ false → (n more : ℕ) → n ≤ last → last ≤ n + more → reach test n more ≡ last
+reach_is test last each stop n zero from upto = omega (arith, from, upto)
+reach_is test last each stop n (suc more) from upto = go (cases_lt n last) (λ lt. reach_is test last each stop (suc n) more lt (omega (arith, upto)))
+  where
+    go : (n < last) ⊎ (last ≤ n) → (n < last → reach test (suc n) more ≡ last) → reach test n (suc more) ≡ last
+    go (inl lt) further = ap (λ b. cond b (reach test (suc n) more) n) (each (suc n) (omega arith) lt) ∙ further lt
+    go (inr le) further = let e : n ≡ last = omega (arith, from, le) in ap (λ b. cond b (reach test (suc n) more) n) (ap (λ k. test (suc k)) e ∙ stop) ∙ e
 
 module _ (h : List Event) (ps : List Pending) (a r : ℕ) (cs : List ℕ) (kept : IsKept h ps a r cs) where
   -- A batch was pushed
@@ -56,7 +66,8 @@ module _ (h : List Event) (ps : List Pending) (a r : ℕ) (cs : List ℕ) (kept 
     past = kept.past;
     pushed = batches_pushed one b is;
     count = kept.count;
-    gone = λ k. is_retired-same h (Pushed b) k refl ∙ kept.gone k;
+    gone = λ k c at. is_retired-same h (Pushed b) c.index c.number refl ∙ kept.gone k c at;
+    no_other = λ x y was. kept.no_other x y (sym (is_retired-same h (Pushed b) x y refl) ∙ was);
     taken = omega (arith, accepted_pushed b, kept.taken);
     within = omega (arith, length-append ps (one ∷ []), kept.within);
     done = λ k i c at lt. has_run-kept h (Pushed b) k i (kept.done k i c at lt);
@@ -82,7 +93,8 @@ module _ (h : List Event) (ps : List Pending) (a r : ℕ) (cs : List ℕ) (kept 
         past = kept.past;
         pushed = batches-same h Accepted refl ∙ kept.pushed;
         count = kept.count;
-        gone = λ k. is_retired-same h Accepted k refl ∙ kept.gone k;
+        gone = λ k c at. is_retired-same h Accepted c.index c.number refl ∙ kept.gone k c at;
+        no_other = λ x y was. kept.no_other x y (sym (is_retired-same h Accepted x y refl) ∙ was);
         taken = omega (arith, more, kept.taken);
         within = omega (arith, kept.taken, may, many);
         done = λ k i c at lt. has_run-kept h Accepted k i (kept.done k i c at lt);
@@ -104,15 +116,23 @@ module _ (h : List Event) (ps : List Pending) (a r : ℕ) (cs : List ℕ) (kept 
   past_at : (k : ℕ) → k < length kept.past → slice_get (batches h) k ≡ slice_get kept.past k
   past_at k lt = ap (λ l. slice_get l k) kept.pushed ∙ slice_get-before kept.past (map batch_of ps) k lt
 
-  is_past : (k : ℕ) → k < length kept.past → is_retired h k ≡ true
-  is_past k lt = kept.gone k ∙ lt-ltb k (length kept.past) lt
+  pub is_past : (k : ℕ) (b : Batch) → k < length kept.past → slice_get (batches h) k ≡ Some b → is_retired h b.index b.number ≡ true
+  is_past k b lt at = kept.gone k b (sym (past_at k lt) ∙ at)
 
-  not_past : (k : ℕ) → is_retired h k ≡ false → length kept.past ≤ k
-  not_past k e = go (cases_lt k (length kept.past))
+  not_past : (k : ℕ) (b : Batch) → slice_get (batches h) k ≡ Some b → is_retired h b.index b.number ≡ false → length kept.past ≤ k
+  not_past k b at e = go (cases_lt k (length kept.past))
     where
       go : (k < length kept.past) ⊎ (length kept.past ≤ k) → length kept.past ≤ k
-      go (inl lt) = absurd (false≢true (sym e ∙ is_past k lt))
+      go (inl lt) = absurd (false≢true (sym e ∙ is_past k b lt at))
       go (inr le) = le
+
+  -- what stands behind the retired ones was not retired
+  pub still_kept : (k : ℕ) (b : Batch) → length kept.past ≤ k → slice_get (batches h) k ≡ Some b → is_retired h b.index b.number ≡ false
+  still_kept k b le at = false_from_ne_true (is_retired h b.index b.number) (λ was.
+      let one : HasNumber kept.past b.index b.number = kept.no_other b.index b.number was in
+      let early : one.place < length kept.past = slice_get_within kept.past one.place one.batch one.at in
+      let less : one.batch.number < b.number = rises (batches h) kept.numbered one.place k one.batch b (omega (arith, early, le)) (past_at one.place early ∙ one.at) at one.of_index in
+      omega (arith, less, one.of_number))
 
   -- An item ran
 
@@ -137,7 +157,8 @@ module _ (h : List Event) (ps : List Pending) (a r : ℕ) (cs : List ℕ) (kept 
         past = kept.past;
         pushed = batches-same h (Ran k i) refl ∙ (kept.pushed ∙ ap (λ l. kept.past ++ l) (sym (map-lowered ps (k - r))));
         count = kept.count;
-        gone = λ l. is_retired-same h (Ran k i) l refl ∙ kept.gone l;
+        gone = λ l c at. is_retired-same h (Ran k i) c.index c.number refl ∙ kept.gone l c at;
+        no_other = λ x y was. kept.no_other x y (sym (is_retired-same h (Ran k i) x y refl) ∙ was);
         taken = omega (arith, same, kept.taken);
         within = omega (arith, kept.within, length-lowered ps (k - r));
         done = λ l m c at lt. has_run-kept h (Ran k i) l m (kept.done l m c at lt);
@@ -187,16 +208,40 @@ module _ (h : List Event) (ps : List Pending) (a r : ℕ) (cs : List ℕ) (kept 
       )
 
   pub some_is_left : 0 < length ps → (k : ℕ) × IsLeft h k
-  some_is_left lt = (length kept.past, record { within = omega (arith, lt, many); kept = kept.gone (length kept.past) ∙ le-ltb (length kept.past) (length kept.past) (omega arith) })
+  some_is_left lt =
+      let s = some_at (batches h) (length kept.past) (omega (arith, lt, many)) in
+      (length kept.past, record { batch = s.0; at = s.1; kept = still_kept (length kept.past) s.0 (omega arith) s.1 })
 
   pub left_is_some : (k : ℕ) → IsLeft h k → 0 < length ps
-  left_is_some k left = omega (arith, left.within, many, not_past k left.kept)
+  left_is_some k left = omega (arith, slice_get_within (batches h) k left.batch left.at, many, not_past k left.batch left.at left.kept)
 
   past_counted : IsCounted kept.past
   past_counted =
       let e : take (length kept.past) (batches h) ≡ kept.past
       = ap (λ l. take (length kept.past) l) kept.pushed ∙ (take-append-le (length kept.past) kept.past (map batch_of ps) (omega arith) ∙ take_all (length kept.past) kept.past (omega arith)) in
       subst IsCounted e (counted (batches h) kept.numbered (length kept.past) (omega (arith, many)))
+
+  -- each number that was retired is at most the last one
+  retired_below : (i n : ℕ) → is_retired h i n ≡ true → n ≤ last_number kept.past i
+  retired_below i n was =
+      let one : HasNumber kept.past i n = kept.no_other i n was in
+      let below : one.batch.number ≤ last_number kept.past one.batch.index = past_counted.below one.place one.batch one.at in
+      let same : last_number kept.past one.batch.index ≡ last_number kept.past i = ap (last_number kept.past) one.of_index in
+      omega (arith, below, same, one.of_number)
+
+  each_retired : (i n : ℕ) → 1 ≤ n → n ≤ last_number kept.past i → is_retired h i n ≡ true
+  each_retired i n one le =
+      let has : HasNumber kept.past i n = past_counted.has i n one le in
+      subst (λ m. is_retired h i m ≡ true) has.of_number (subst (λ x. is_retired h x has.batch.number ≡ true) has.of_index (kept.gone has.place has.batch has.at))
+
+  next_not_retired : (i : ℕ) → is_retired h i (suc (last_number kept.past i)) ≡ false
+  next_not_retired i = false_from_ne_true _ (λ was. omega (arith, retired_below i (suc (last_number kept.past i)) was))
+
+  last_past : (i : ℕ) → last_number kept.past i ≤ length kept.past
+  last_past i =
+      let e : take (length kept.past) (batches h) ≡ kept.past
+      = ap (λ l. take (length kept.past) l) kept.pushed ∙ (take-append-le (length kept.past) kept.past (map batch_of ps) (omega arith) ∙ take_all (length kept.past) kept.past (omega arith)) in
+      subst (λ l. last_number l i ≤ length kept.past) e (last_number-le (batches h) kept.numbered i (length kept.past) (omega (arith, many)))
 
   pub completed_is : (i : ℕ) → i < 64 → IsCompleted h i (slice_index cs i)
   completed_is i lt = record {
@@ -206,19 +251,21 @@ module _ (h : List Event) (ps : List Pending) (a r : ℕ) (cs : List ℕ) (kept 
       at = past_at has.place (slice_get_within kept.past has.place has.batch has.at) ∙ has.at;
       of_index = has.of_index;
       of_number = has.of_number;
-      retired = is_past has.place (slice_get_within kept.past has.place has.batch has.at);
+      retired = each_retired i n one (omega (arith, le, kept.completed i lt));
     };
-    no_more = λ next.
-        let before : next.place < length kept.past = ltb-true next.place (length kept.past) (sym (kept.gone next.place) ∙ next.retired) in
-        let below : next.batch.number ≤ last_number kept.past next.batch.index = past_counted.below next.place next.batch (sym (past_at next.place before) ∙ next.at) in
-        let same : last_number kept.past next.batch.index ≡ last_number kept.past i = ap (last_number kept.past) next.of_index in
-        omega (arith, below, same, next.of_number, kept.completed i lt);
+    no_more = λ next. omega (arith, retired_below i (slice_index cs i + 1) next.retired, kept.completed i lt);
   }
+
+  -- the completed number as a function of the history
+  pub completed_number : (i : ℕ) → i < 64 → slice_index cs i ≡ completed h i
+  completed_number i lt =
+      let le : last_number kept.past i ≤ length kept.past = last_past i in
+      kept.completed i lt ∙ sym (reach_is (is_retired h i) (last_number kept.past i) (each_retired i) (next_not_retired i) 0 (length (batches h)) (omega arith) (omega (arith, le, many)))
 
   -- No batch can be retired
 
   pub none_accepted : a ≡ 0 → (k : ℕ) → CanRetire h k → ⊥
-  none_accepted e k can = omega (arith, e, kept.taken, can.accepted_before, not_past k can.not_before)
+  none_accepted e k can = omega (arith, e, kept.taken, can.accepted_before, not_past k can.batch can.at can.not_before)
 
   pub none_executed : (f : Pending) (rest : List Pending) → ps ≡ f ∷ rest → 0 < f.left → (k : ℕ) → CanRetire h k → ⊥
   none_executed f rest is some k can = go (cases_lt (length kept.past) k)
@@ -231,11 +278,11 @@ module _ (h : List Event) (ps : List Pending) (a r : ℕ) (cs : List ℕ) (kept 
 
       go : (length kept.past < k) ⊎ (k ≤ length kept.past) → ⊥
       go (inl later) =
-          let early : is_retired h (length kept.past) ≡ true
+          let early : is_retired h f.batch.index f.batch.number ≡ true
           = can.in_order (length kept.past) f.batch later at_front (kept.one_queue (length kept.past) f.batch at_front ∙ sym (kept.one_queue k can.batch can.at)) in
-          false≢true (sym (kept.gone (length kept.past) ∙ le-ltb (length kept.past) (length kept.past) (omega arith)) ∙ early)
+          false≢true (sym (still_kept (length kept.past) f.batch (omega arith) at_front) ∙ early)
       go (inr le) =
-          let here : k ≡ length kept.past = omega (arith, le, not_past k can.not_before) in
+          let here : k ≡ length kept.past = omega (arith, le, not_past k can.batch can.at can.not_before) in
           let same : can.batch ≡ f.batch = same_Some can.batch f.batch (sym can.at ∙ (ap (λ l. slice_get (batches h) l) here ∙ at_front)) in
           let all : not_run (has_run h k) (item_count can.batch) ≡ 0 = not_run-all (has_run h k) (item_count can.batch) can.executed in
           let none : not_run (has_run h (length kept.past)) (item_count f.batch) ≡ 0
@@ -256,26 +303,49 @@ module _ (h : List Event) (f : Pending) (rest : List Pending) (a r : ℕ) (cs : 
     at = batch_at h (f ∷ rest) a r cs kept (length kept.past) 0 (omega arith);
     accepted_before = omega (arith, kept.taken, some);
     executed = not_run-done (has_run h (length kept.past)) (item_count f.batch) (sym kept.left.0 ∙ none);
-    in_order = λ k earlier lt at same. kept.gone k ∙ lt-ltb k (length kept.past) lt;
-    not_before = kept.gone (length kept.past) ∙ le-ltb (length kept.past) (length kept.past) (omega arith);
+    in_order = λ k earlier lt at same. is_past h (f ∷ rest) a r cs kept k earlier lt at;
+    not_before = still_kept h (f ∷ rest) a r cs kept (length kept.past) f.batch (omega arith) (batch_at h (f ∷ rest) a r cs kept (length kept.past) 0 (omega arith));
   }
 
   -- the retired batches are one more
   longer : length (kept.past ++ f.batch ∷ []) ≡ length kept.past + 1
   longer = length-append kept.past (f.batch ∷ [])
 
-  now_gone : (k : ℕ) → is_retired (h ++ Retired (length kept.past) ∷ []) k ≡ nat_lt k (length (kept.past ++ f.batch ∷ []))
-  now_gone k = is_retired-then h (Retired (length kept.past)) k ∙ go (cases_order k (length kept.past))
-    where
-      go : (k ≡ length kept.past) ⊎ ((k < length kept.past) ⊎ (length kept.past < k)) → (is_retired h k || (length kept.past == k)) ≡ nat_lt k (length (kept.past ++ f.batch ∷ []))
-      go (inl same) = or_right (is_retired h k) (length kept.past == k) (eq-eqb (length kept.past) k (sym same)) ∙ sym (lt-ltb k _ (omega (arith, same, longer)))
-      go (inr (inl before)) = or_left (is_retired h k) (length kept.past == k) (kept.gone k ∙ lt-ltb k (length kept.past) before) ∙ sym (lt-ltb k _ (omega (arith, before, longer)))
-      go (inr (inr after)) =
-          or_from (is_retired h k) (length kept.past == k) (kept.gone k ∙ le-ltb k (length kept.past) (omega (arith, after))) (ne_eqb (length kept.past) k (λ e. omega (arith, e, after)))
-          ∙ sym (le-ltb k _ (omega (arith, after, longer)))
+  -- the event
+  abbrev retirement : Event
+  retirement = Retired (record { index = f.batch.index; number = f.batch.number })
 
-  now_done : (k i : ℕ) (b : Batch) → slice_get (kept.past ++ f.batch ∷ []) k ≡ Some b → i < item_count b → has_run (h ++ Retired (length kept.past) ∷ []) k i ≡ true
-  now_done k i b at lt = has_run-kept h (Retired (length kept.past)) k i (go (slice_get-then kept.past f.batch k b at))
+  its_own : is_retirement f.batch.index f.batch.number retirement ≡ true
+  its_own = and_from (f.batch.index == f.batch.index) (f.batch.number == f.batch.number) (eq-eqb f.batch.index f.batch.index refl) (eq-eqb f.batch.number f.batch.number refl)
+
+  now_gone : (k : ℕ) (b : Batch) → slice_get (kept.past ++ f.batch ∷ []) k ≡ Some b → is_retired (h ++ retirement ∷ []) b.index b.number ≡ true
+  now_gone k b at = is_retired-then h retirement b.index b.number ∙ go (slice_get-then kept.past f.batch k b at)
+    where
+      go : (slice_get kept.past k ≡ Some b) ⊎ ((k ≡ length kept.past) × (b ≡ f.batch)) → (is_retired h b.index b.number || is_retirement b.index b.number retirement) ≡ true
+      go (inl old) = or_left (is_retired h b.index b.number) _ (kept.gone k b old)
+      go (inr new) = subst (λ (c : Batch). (is_retired h c.index c.number || is_retirement c.index c.number retirement) ≡ true) (sym new.1) (or_right (is_retired h f.batch.index f.batch.number) _ its_own)
+
+  now_no_other : (i n : ℕ) → is_retired (h ++ retirement ∷ []) i n ≡ true → HasNumber (kept.past ++ f.batch ∷ []) i n
+  now_no_other i n was = go (or_cases (is_retired h i n) (is_retirement i n retirement) (sym (is_retired-then h retirement i n) ∙ was))
+    where
+      go : (is_retired h i n ≡ true) ⊎ (is_retirement i n retirement ≡ true) → HasNumber (kept.past ++ f.batch ∷ []) i n
+      go (inl old) = let one : HasNumber kept.past i n = kept.no_other i n old in record {
+        place = one.place;
+        batch = one.batch;
+        at = slice_get-left kept.past (f.batch ∷ []) one.place one.batch one.at;
+        of_index = one.of_index;
+        of_number = one.of_number;
+      }
+      go (inr own) = let both = and_parts (f.batch.index == i) (f.batch.number == n) own in record {
+        place = length kept.past;
+        batch = f.batch;
+        at = slice_get-right kept.past (f.batch ∷ []) (length kept.past) 0 (omega arith);
+        of_index = eqb-true f.batch.index i both.0;
+        of_number = eqb-true f.batch.number n both.1;
+      }
+
+  now_done : (k i : ℕ) (b : Batch) → slice_get (kept.past ++ f.batch ∷ []) k ≡ Some b → i < item_count b → has_run (h ++ retirement ∷ []) k i ≡ true
+  now_done k i b at lt = has_run-kept h retirement k i (go (slice_get-then kept.past f.batch k b at))
     where
       go : (slice_get kept.past k ≡ Some b) ⊎ ((k ≡ length kept.past) × (b ≡ f.batch)) → has_run h k i ≡ true
       go (inl old) = kept.done k i b old lt
@@ -291,22 +361,22 @@ module _ (h : List Event) (f : Pending) (rest : List Pending) (a r : ℕ) (cs : 
       go (inr other) =
           get_or-set_other cs f.batch.index i f.batch.number 0 (λ e. other (sym e)) ∙ (kept.completed i lt ∙ sym (last_number-other kept.past f.batch i other))
 
-  pub retired_kept : IsKept (h ++ Retired (length kept.past) ∷ []) rest (a - 1) (min (r + 1) (2 ^ 64 - 1)) (set cs f.batch.index f.batch.number)
+  pub retired_kept : IsKept (h ++ retirement ∷ []) rest (a - 1) (min (r + 1) (2 ^ 64 - 1)) (set cs f.batch.index f.batch.number)
   retired_kept =
-      let event : Event = Retired (length kept.past) in
-      let same : accepted (h ++ Retired (length kept.past) ∷ []) ≡ accepted h = omega (arith, accepted-then h event) in
+      let same : accepted (h ++ retirement ∷ []) ≡ accepted h = omega (arith, accepted-then h retirement) in
       record {
         past = kept.past ++ f.batch ∷ [];
-        pushed = batches-same h event refl ∙ (kept.pushed ∙ sym (append_assoc kept.past (f.batch ∷ []) (map batch_of rest)));
+        pushed = batches-same h retirement refl ∙ (kept.pushed ∙ sym (append_assoc kept.past (f.batch ∷ []) (map batch_of rest)));
         count = omega (arith, kept.count, longer);
         gone = now_gone;
+        no_other = now_no_other;
         taken = omega (arith, same, kept.taken, longer, some);
         within = omega (arith, kept.within, some);
         done = now_done;
-        left = subst (λ n. LeftAre (has_run (h ++ Retired (length kept.past) ∷ [])) n rest) (let e : suc (length kept.past) ≡ length (kept.past ++ f.batch ∷ []) = omega (arith, longer) in e)
-            (LeftAre-same (has_run h) _ (suc (length kept.past)) rest (λ k i le. has_run-same h event k i refl) kept.left.1);
-        not_early = λ k i le. has_run-same h event k i refl ∙ kept.not_early k i (omega (arith, le, same));
-        numbered = subst AreNumbered (sym (batches-same h event refl)) kept.numbered;
-        one_queue = λ k c at. kept.one_queue k c (subst (λ l. slice_get l k ≡ Some c) (batches-same h event refl) at);
+        left = subst (λ n. LeftAre (has_run (h ++ retirement ∷ [])) n rest) (let e : suc (length kept.past) ≡ length (kept.past ++ f.batch ∷ []) = omega (arith, longer) in e)
+            (LeftAre-same (has_run h) _ (suc (length kept.past)) rest (λ k i le. has_run-same h retirement k i refl) kept.left.1);
+        not_early = λ k i le. has_run-same h retirement k i refl ∙ kept.not_early k i (omega (arith, le, same));
+        numbered = subst AreNumbered (sym (batches-same h retirement refl)) kept.numbered;
+        one_queue = λ k c at. kept.one_queue k c (subst (λ l. slice_get l k ≡ Some c) (batches-same h retirement refl) at);
         completed = now_completed;
       }

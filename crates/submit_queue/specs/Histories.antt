@@ -1,14 +1,16 @@
 -- What happens to the batches of a device: they are pushed, accepted, run and retired.
-use Rattle.std.specs.Prelude.{◌≡◌, ℕ, ◌+◌, ◌<◌, ◌≤◌, ◌==◌, ◌&&◌, cond, Bool, true, false, List, [], ◌∷◌, length, fold, slice_get, Option, Some}
+use Rattle.std.specs.Prelude.{◌≡◌, ℕ, zero, suc, if◌then◌else◌, ◌+◌, ◌<◌, ◌≤◌, ◌==◌, ◌&&◌, cond, Bool, true, false, List, [], ◌∷◌, length, fold, slice_get, Option, Some}
 use Rattle.std.specs.List.{flat_map, count_by, list_any}
 use Rattle.vk_types.specs.declared.batches.Batch.{Batch}
+use Rattle.vk_types.specs.declared.batches.QueueSerial.{QueueSerial}
 
--- An event; a batch is named by its place in the order of the pushes, and an item by its place in the batch, both from 0.
+-- An event. A run names a batch by its place in the order of the pushes, and an item by its place in the batch, both from
+-- 0. A retirement names the batch by its serial.
 pub data Event : Type 0 where
   Pushed : Batch → Event
   Accepted : Event
   Ran : (batch item : ℕ) → Event
-  Retired : (batch : ℕ) → Event
+  Retired : QueueSerial → Event
 
 -- the batch that an event pushes
 abbrev pub pushed_by : Event → List Batch
@@ -43,16 +45,16 @@ is_run batch item (Retired _) = false
 abbrev pub has_run : List Event → ℕ → ℕ → Bool
 has_run history batch item = list_any (is_run batch item) history
 
--- whether an event is the retirement of this batch
-abbrev pub is_retirement : ℕ → Event → Bool
-is_retirement batch (Pushed _) = false
-is_retirement batch Accepted = false
-is_retirement batch (Ran _ _) = false
-is_retirement batch (Retired b) = b == batch
+-- whether an event is the retirement of the batch with this number of the index
+abbrev pub is_retirement : ℕ → ℕ → Event → Bool
+is_retirement index number (Pushed _) = false
+is_retirement index number Accepted = false
+is_retirement index number (Ran _ _) = false
+is_retirement index number (Retired serial) = (serial.index == index) && (serial.number == number)
 
--- whether a batch was retired
-abbrev pub is_retired : List Event → ℕ → Bool
-is_retired history batch = list_any (is_retirement batch) history
+-- whether the index's batch with this number was retired
+abbrev pub is_retired : List Event → ℕ → ℕ → Bool
+is_retired history index number = list_any (is_retirement index number) history
 
 -- the items of a batch are its waits, then its nodes, then its signals
 abbrev pub item_count : Batch → ℕ
@@ -90,8 +92,8 @@ pub record CanRetire (history : List Event) (place : ℕ) : Type 0 where
   pub at : slice_get (batches history) place ≡ Some batch
   pub accepted_before : place < accepted history
   pub executed : (item : ℕ) → item < item_count batch → has_run history place item ≡ true
-  pub in_order : (k : ℕ) (earlier : Batch) → k < place → slice_get (batches history) k ≡ Some earlier → earlier.queue ≡ batch.queue → is_retired history k ≡ true
-  pub not_before : is_retired history place ≡ false
+  pub in_order : (k : ℕ) (earlier : Batch) → k < place → slice_get (batches history) k ≡ Some earlier → earlier.queue ≡ batch.queue → is_retired history earlier.index earlier.number ≡ true
+  pub not_before : is_retired history batch.index batch.number ≡ false
 
 -- the index has a batch with this number, and it was retired
 pub record HasRetired (history : List Event) (index number : ℕ) : Type 0 where
@@ -100,14 +102,24 @@ pub record HasRetired (history : List Event) (index number : ℕ) : Type 0 where
   pub at : slice_get (batches history) place ≡ Some batch
   pub of_index : batch.index ≡ index
   pub of_number : batch.number ≡ number
-  pub retired : is_retired history place ≡ true
+  pub retired : is_retired history index number ≡ true
 
 -- the greatest number such that the index has a batch with each number from 1 to it, and all these were retired
 pub record IsCompleted (history : List Event) (index number : ℕ) : Type 0 where
   pub each : (n : ℕ) → 1 ≤ n → n ≤ number → HasRetired history index n
   pub no_more : HasRetired history index (number + 1) → ⊥
 
+-- so far a test holds without a gap, from a number on and no more than so many numbers
+abbrev pub reach : (ℕ → Bool) → ℕ → ℕ → ℕ
+reach test n zero = n
+reach test n (suc more) = if test (suc n) then reach test (suc n) more else n
+
+-- the completed number of an index; a history has no more retirements than batches
+abbrev pub completed : List Event → ℕ → ℕ
+completed history index = reach (is_retired history index) 0 (length (batches history))
+
 -- a batch that was not retired
 pub record IsLeft (history : List Event) (place : ℕ) : Type 0 where
-  pub within : place < length (batches history)
-  pub kept : is_retired history place ≡ false
+  pub batch : Batch
+  pub at : slice_get (batches history) place ≡ Some batch
+  pub kept : is_retired history batch.index batch.number ≡ false

@@ -1,5 +1,5 @@
 -- What a submission queue keeps of a history.
-use Rattle.std.specs.Prelude.{◌≡◌, ℕ, zero, suc, ◌+◌, ◌-◌, ◌<◌, ◌≤◌, ◌^◌, ◌==◌, not, nat_lt, min, cond, Bool, true, false, List, [], ◌∷◌, ◌++◌, length, map, take, slice_get, slice_index, Some}
+use Rattle.std.specs.Prelude.{◌≡◌, ℕ, zero, suc, ◌+◌, ◌-◌, ◌<◌, ◌≤◌, ◌^◌, ◌==◌, not, min, cond, Bool, true, false, List, [], ◌∷◌, ◌++◌, length, map, take, slice_get, slice_index, Some}
 use Rattle.vk_types.specs.declared.batches.Batch.{Batch}
 use Rattle.vk_types.specs.declared.batches.QueueSerial.{QueueSerial}
 use Rattle.submit_queue.specs.declared.pending.Pending.{Pending}
@@ -23,6 +23,14 @@ LeftAre ran place (one ∷ more) = (one.left ≡ not_run (ran place) (item_count
 abbrev pub AreNumbered : List Batch → Type 0
 AreNumbered list = (k : ℕ) (b : Batch) → slice_get list k ≡ Some b → b.number ≡ last_number (take k list) b.index + 1
 
+-- one of these batches has this serial
+pub record HasNumber (list : List Batch) (index number : ℕ) : Type 0 where
+  pub place : ℕ
+  pub batch : Batch
+  pub at : slice_get list place ≡ Some batch
+  pub of_index : batch.index ≡ index
+  pub of_number : batch.number ≡ number
+
 -- What a queue knows of a history: the batches that were not retired, each with the count of the items that it still has
 -- to run; how many of them were accepted; how many others were retired, as far as a number goes; and for each index the
 -- last number that was retired.
@@ -30,7 +38,8 @@ pub record IsKept (history : List Event) (pending : List Pending) (accepted_ ret
   pub past : List Batch
   pub pushed : batches history ≡ past ++ map batch_of pending
   pub count : retired_ ≡ min (length past) (2 ^ 64 - 1)
-  pub gone : (k : ℕ) → is_retired history k ≡ nat_lt k (length past)
+  pub gone : (k : ℕ) (b : Batch) → slice_get past k ≡ Some b → is_retired history b.index b.number ≡ true
+  pub no_other : (index number : ℕ) → is_retired history index number ≡ true → HasNumber past index number
   pub taken : accepted history ≡ length past + accepted_
   pub within : accepted_ ≤ length pending
   pub done : (k i : ℕ) (b : Batch) → slice_get past k ≡ Some b → i < item_count b → has_run history k i ≡ true
@@ -50,7 +59,7 @@ pub record Retires (history : List Event) (serial : QueueSerial) (queue : Submit
   pub can : CanRetire history place
   pub index : serial.index ≡ can.batch.index
   pub number : serial.number ≡ can.batch.number
-  pub keeps : Keeps (history ++ Retired place ∷ []) queue
+  pub keeps : Keeps (history ++ Retired serial ∷ []) queue
 
 -- the list after an item ran of the batch at a place
 abbrev pub lowered : List Pending → ℕ → List Pending

@@ -1,6 +1,6 @@
 // The batches of a device, from the push to the retirement.
 ghost use Rattle.std.specs.Prelude.{◌≡◌, ◌+◌, ◌-◌, ◌<◌, ℕ, List, [], ◌∷◌, ◌++◌, Some, IfErr, IfNone, IfSome, OnOk, OnErr, IsTrue, ◌↔◌, option_copied, slice_get, length};
-ghost use Rattle.submit_queue.specs.Histories.{Event, Pushed, Accepted, Ran, Retired, item_count, first_flushed, MayPush, MayAccept, MayRun, CanRetire, IsCompleted, IsLeft};
+ghost use Rattle.submit_queue.specs.Histories.{Event, Pushed, Accepted, Ran, Retired, item_count, first_flushed, MayPush, MayAccept, MayRun, CanRetire, IsCompleted, completed, IsLeft};
 ghost use Rattle.submit_queue.specs.Kept.{Keeps, Retires};
 
 use crate::pending::{Pending, is_executed, run_one, some_left};
@@ -108,7 +108,8 @@ impl SubmitQueue {
     /// The greatest number such that the index has a batch with each number from 1 to it, and all these were retired; 0
     /// where there is none.
     pub fn completed(&self, index: SerialIndex) -> u64
-        ensures { (h : List Event) → Keeps h self.now → IsCompleted h index result }
+        ensures greatest { (h : List Event) → Keeps h self.now → IsCompleted h index result }
+        ensures value { (h : List Event) → Keeps h self.now → result ≡ completed h index }
     {
         self.completed[usize::from(index.get())]
     }
