@@ -7,10 +7,10 @@ use Rattle.std.proofs.lemmas.List.{append_assoc, map-append, length-append, leng
 use Rattle.std.proofs.lemmas.Option.{slice_get_within, slice_get-map}
 use Rattle.vk_types.specs.declared.batches.Batch.{Batch}
 use Rattle.submit_queue.specs.declared.pending.Pending.{Pending}
-use Rattle.submit_queue.specs.Histories.{Event, is_retirement, Pushed, Accepted, Ran, Retired, batches, accepted, has_run, is_retired, item_count, last_number, first_flushed, MayPush, MayAccept, MayRun, CanRetire, IsCompleted, completed, reach, IsLeft}
+use Rattle.submit_queue.specs.Histories.{Event, is_retirement, retired, Pushed, Accepted, Ran, Retired, batches, accepted, has_run, is_retired, item_count, last_number, first_flushed, MayPush, MayAccept, MayRun, CanRetire, IsCompleted, completed, reach, IsLeft}
 use Rattle.submit_queue.specs.Kept.{batch_of, not_run, LeftAre, AreNumbered, IsKept, HasNumber, lowered, has_left}
 use Rattle.submit_queue.proofs.Lists.{same_Some, not_Some, slice_get-left, slice_get-right, slice_get-before, slice_get-then, some_at, any_at, any_from}
-use Rattle.submit_queue.proofs.Events.{batches-then, batches-same, accepted-then, has_run-same, has_run-kept, has_run-now, is_retired-then, is_retired-same}
+use Rattle.submit_queue.proofs.Events.{batches-then, batches-same, accepted-then, retired-then, has_run-same, has_run-kept, has_run-now, is_retired-then, is_retired-same}
 use Rattle.submit_queue.proofs.Counts.{not_run-none, not_run-all, not_run-done, not_run-some, LeftAre-same, LeftAre-push, LeftAre-at, LeftAre-run, map-lowered, length-lowered}
 use Rattle.submit_queue.proofs.Numbers.{IsCounted, counted, numbered-then, rises, last_number-own, last_number-other, last_number-le}
 
@@ -22,6 +22,7 @@ new_kept = record {
   count = refl;
   gone = λ k b at. absurd (not_Some b at);
   no_other = λ i n was. absurd (false≢true was);
+  so_many = refl;
   taken = refl;
   within = omega arith;
   done = λ k i b at lt. absurd (not_Some b at);
@@ -68,6 +69,7 @@ module _ (h : List Event) (ps : List Pending) (a r : ℕ) (cs : List ℕ) (kept 
     count = kept.count;
     gone = λ k c at. is_retired-same h (Pushed b) c.index c.number refl ∙ kept.gone k c at;
     no_other = λ x y was. kept.no_other x y (sym (is_retired-same h (Pushed b) x y refl) ∙ was);
+    so_many = omega (arith, retired-then h (Pushed b), kept.so_many);
     taken = omega (arith, accepted_pushed b, kept.taken);
     within = omega (arith, length-append ps (one ∷ []), kept.within);
     done = λ k i c at lt. has_run-kept h (Pushed b) k i (kept.done k i c at lt);
@@ -95,6 +97,7 @@ module _ (h : List Event) (ps : List Pending) (a r : ℕ) (cs : List ℕ) (kept 
         count = kept.count;
         gone = λ k c at. is_retired-same h Accepted c.index c.number refl ∙ kept.gone k c at;
         no_other = λ x y was. kept.no_other x y (sym (is_retired-same h Accepted x y refl) ∙ was);
+        so_many = omega (arith, retired-then h Accepted, kept.so_many);
         taken = omega (arith, more, kept.taken);
         within = omega (arith, kept.taken, may, many);
         done = λ k i c at lt. has_run-kept h Accepted k i (kept.done k i c at lt);
@@ -159,6 +162,7 @@ module _ (h : List Event) (ps : List Pending) (a r : ℕ) (cs : List ℕ) (kept 
         count = kept.count;
         gone = λ l c at. is_retired-same h (Ran k i) c.index c.number refl ∙ kept.gone l c at;
         no_other = λ x y was. kept.no_other x y (sym (is_retired-same h (Ran k i) x y refl) ∙ was);
+        so_many = omega (arith, retired-then h (Ran k i), kept.so_many);
         taken = omega (arith, same, kept.taken);
         within = omega (arith, kept.within, length-lowered ps (k - r));
         done = λ l m c at lt. has_run-kept h (Ran k i) l m (kept.done l m c at lt);
@@ -260,7 +264,7 @@ module _ (h : List Event) (ps : List Pending) (a r : ℕ) (cs : List ℕ) (kept 
   pub completed_number : (i : ℕ) → i < 64 → slice_index cs i ≡ completed h i
   completed_number i lt =
       let le : last_number kept.past i ≤ length kept.past = last_past i in
-      kept.completed i lt ∙ sym (reach_is (is_retired h i) (last_number kept.past i) (each_retired i) (next_not_retired i) 0 (length (batches h)) (omega arith) (omega (arith, le, many)))
+      kept.completed i lt ∙ sym (reach_is (is_retired h i) (last_number kept.past i) (each_retired i) (next_not_retired i) 0 (retired h) (omega arith) (omega (arith, le, kept.so_many)))
 
   -- No batch can be retired
 
@@ -370,6 +374,7 @@ module _ (h : List Event) (f : Pending) (rest : List Pending) (a r : ℕ) (cs : 
         count = omega (arith, kept.count, longer);
         gone = now_gone;
         no_other = now_no_other;
+        so_many = omega (arith, retired-then h retirement, kept.so_many, longer);
         taken = omega (arith, same, kept.taken, longer, some);
         within = omega (arith, kept.within, some);
         done = now_done;

@@ -114,9 +114,20 @@ abbrev pub reach : (ℕ → Bool) → ℕ → ℕ → ℕ
 reach test n zero = n
 reach test n (suc more) = if test (suc n) then reach test (suc n) more else n
 
--- the completed number of an index; a history has no more retirements than batches
+-- whether an event retires a batch
+abbrev pub is_retire : Event → Bool
+is_retire (Pushed _) = false
+is_retire Accepted = false
+is_retire (Ran _ _) = false
+is_retire (Retired _) = true
+
+-- how many batches were retired
+abbrev pub retired : List Event → ℕ
+retired history = count_by is_retire history
+
+-- the completed number of an index, which is no more than the batches that were retired
 abbrev pub completed : List Event → ℕ → ℕ
-completed history index = reach (is_retired history index) 0 (length (batches history))
+completed history index = reach (is_retired history index) 0 (retired history)
 
 -- a batch that was not retired
 pub record IsLeft (history : List Event) (place : ℕ) : Type 0 where

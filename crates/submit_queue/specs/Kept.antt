@@ -4,7 +4,7 @@ use Rattle.vk_types.specs.declared.batches.Batch.{Batch}
 use Rattle.vk_types.specs.declared.batches.QueueSerial.{QueueSerial}
 use Rattle.submit_queue.specs.declared.pending.Pending.{Pending}
 use Rattle.submit_queue.specs.declared.queue.SubmitQueue.{SubmitQueue}
-use Rattle.submit_queue.specs.Histories.{Event, Retired, batches, accepted, has_run, is_retired, item_count, last_number, CanRetire}
+use Rattle.submit_queue.specs.Histories.{Event, Retired, batches, accepted, has_run, is_retired, retired, item_count, last_number, CanRetire}
 
 abbrev pub batch_of : Pending → Batch
 batch_of one = one.batch
@@ -40,6 +40,7 @@ pub record IsKept (history : List Event) (pending : List Pending) (accepted_ ret
   pub count : retired_ ≡ min (length past) (2 ^ 64 - 1)
   pub gone : (k : ℕ) (b : Batch) → slice_get past k ≡ Some b → is_retired history b.index b.number ≡ true
   pub no_other : (index number : ℕ) → is_retired history index number ≡ true → HasNumber past index number
+  pub so_many : retired history ≡ length past
   pub taken : accepted history ≡ length past + accepted_
   pub within : accepted_ ≤ length pending
   pub done : (k i : ℕ) (b : Batch) → slice_get past k ≡ Some b → i < item_count b → has_run history k i ≡ true

@@ -5,9 +5,11 @@
 //! earlier batch of its queue was retired. Contracts speak of the history of these events: `specs/Histories.antt`.
 #![tactic(auto)]
 
+mod laws;
 mod pending;
 mod queue;
 
+pub use laws::completed_numbers;
 pub use queue::SubmitQueue;
 
 #[cfg(test)]
