@@ -1,5 +1,5 @@
 -- What a share group sees, as a function of what happened to the back.
-use Rattle.std.specs.Prelude.{◌≡◌, ℕ, ◌/◌, ◌==◌, false, List, [], ◌∷◌, fold, Option, Some, None, if◌then◌else◌}
+use Rattle.std.specs.Prelude.{◌≡◌, ◌≢◌, ℕ, ◌/◌, ◌==◌, false, List, [], ◌∷◌, fold, Option, Some, None, if◌then◌else◌}
 use Rattle.std.specs.List.{flat_map}
 use Rattle.vk_types.specs.declared.batches.Batch.{Batch}
 use Rattle.submit_queue.specs.Histories as queue
@@ -67,4 +67,19 @@ own_part history group = fold link_after (opening group) history
 
 -- what a group sees that reaches the back directly: it is told the completed numbers, and knows them
 abbrev pub link_of : List BackEvent → ℕ → Link
-link_of history group = record (own_part history group) { done = completed history; now = Some (completed history) }
+link_of history group = record (own_part history group) { done = completed history; now = Some (completed history); asked = None }
+
+-- an event that tells a group nothing: another group's, or the device's or the back's, but for a retirement
+abbrev pub IsOfOthers : BackEvent → ℕ → Type 0
+IsOfOthers (Created group id kind) g = group ≢ g
+IsOfOthers (Wrote group id at bytes) g = group ≢ g
+IsOfOthers (Enqueued batch) g = batch.index / 8 ≢ g
+IsOfOthers Submitted g = Unit {0}
+IsOfOthers (Ran batch node) g = Unit {0}
+IsOfOthers (Retired serial) g = ⊥
+IsOfOthers (Fetched group id at bytes) g = group ≢ g
+IsOfOthers (Gave group id uses) g = group ≢ g
+IsOfOthers (Abandoned group id) g = group ≢ g
+IsOfOthers (Cleaned read) g = Unit {0}
+IsOfOthers Closing g = Unit {0}
+IsOfOthers (Stopped stop) g = Unit {0}

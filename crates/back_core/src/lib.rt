@@ -7,6 +7,8 @@
 
 mod back_event;
 mod back_link;
+mod laws;
 
 pub use back_event::BackEvent;
 pub use back_link::BackLink;
+pub use laws::{uses_are_low, what_a_group_sees};
