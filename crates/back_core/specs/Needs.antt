@@ -1,12 +1,12 @@
 -- What the calls of a link need.
-use Rattle.std.specs.Prelude.{◌≡◌, ℕ, ◌+◌, ◌*◌, ◌<◌, ◌≤◌, ◌⊎◌, true, false, List, ◌++◌, length, Option, Some, None, All}
+use Rattle.std.specs.Prelude.{◌≡◌, ℕ, ◌+◌, ◌*◌, ◌<◌, ◌≤◌, ◌⊎◌, true, false, List, ◌++◌, length, Some, None, All}
 use Rattle.vk_types.specs.declared.batches.Batch.{Batch}
 use Rattle.vk_types.specs.declared.batches.QueueSerial.{QueueSerial}
 use Rattle.vk_model.specs.Log.{commands, NoneEmpty, IsSound}
 use Rattle.vk_model.specs.Fitting.{HasRange, NodeFits}
 use Rattle.resource_use.specs.Uses.{number_of}
 use Rattle.submit_queue.specs.Histories.{last_number}
-use Rattle.back_core.specs.Own.{Own, log_of, batches_of, next_number, last_use, batch_touches, own_touches}
+use Rattle.back_core.specs.Own.{log_of, batches_of, next_number, last_use, batch_touches, own_touches}
 use Rattle.back_core.specs.Link.{Link}
 
 -- the indexes of group g are 8g to 8g + 7

@@ -1,13 +1,13 @@
 -- What a back in memory keeps right.
 use mathlib.Core.Path.{fun_ext}
-use Rattle.std.proofs.Common.{◌≡◌, ◌≢◌, ℕ, zero, suc, ◌+◌, ◌-◌, ◌<◌, ◌≤◌, ◌==◌, Bool, true, false, cond, List, [], ◌∷◌, ◌++◌, length, map, get_or, replicate, refl, sym, ap, subst, ◌∙◌, inl, inr, arith}
-use Rattle.std.specs.Prelude.{◌⊎◌, ◌||◌, ◌&&◌, nat_le, nat_lt, Option, Some, None, slice_get, slice_index, option_map, unwrap_or, All, IsSome}
-use Rattle.std.specs.List.{flat_map, list_any}
-use Rattle.std.proofs.lemmas.Bool.{cases_eq, cases_lt, cases_Bool, cond-true, cond-false, eqb-true, eq-eqb, ne_eqb, leb-true, le-leb, ltb-true, lt-ltb, ltb-false, leb-false, and_parts, and_from, or_cases, or_left, or_right, or_from, false≢true, false_from_ne_true}
+use Rattle.std.proofs.Common.{◌≡◌, ◌≢◌, ℕ, zero, suc, ◌+◌, ◌-◌, ◌<◌, ◌≤◌, ◌==◌, true, false, List, [], ◌∷◌, ◌++◌, length, map, refl, sym, ap, subst, ◌∙◌, inl, inr, arith}
+use Rattle.std.specs.Prelude.{◌⊎◌, ◌&&◌, nat_le, nat_lt, Option, Some, None, slice_get, slice_index, option_map, unwrap_or, All, IsSome}
+use Rattle.std.specs.List.{list_any}
+use Rattle.std.proofs.lemmas.Bool.{cases_eq, cases_lt, cases_Bool, cond-true, cond-false, eq-eqb, ne_eqb, leb-true, le-leb, ltb-true, lt-ltb, and_parts, and_from, or_left, or_right, or_from, false≢true, false_from_ne_true}
 use Rattle.std.proofs.lemmas.List.{append-nil, map-append, length-append, length-replicate, get_or_default}
 use Rattle.std.proofs.lemmas.List.Elements.{All-nil, All-push, All-weaker, All-head, All-tail}
 use Rattle.std.proofs.lemmas.List.Concat.{flat_map-append}
-use Rattle.std.proofs.lemmas.Option.{slice_get_past, slice_get_within}
+use Rattle.std.proofs.lemmas.Option.{slice_get_past}
 use Rattle.cells.specs.Contents.{cell_at, overwritten, part, cells, Agrees, UNDEFINED}
 use Rattle.vk_types.specs.declared.handles.Kind.{Kind}
 use Rattle.vk_types.specs.declared.handles.Kind.TheVariants.{Buffer}
@@ -29,7 +29,7 @@ use Rattle.vk_objects.specs.declared.objects.Objects.{Objects}
 use Rattle.vk_objects.specs.Objects.{object_at, kind_of, kinds_of, bytes_in, bytes_of, contents_of, new_object, HasSize, HaveSizes, SetsObject, SetsBytes, IsUnchanged, Executes}
 use Rattle.vk_objects.proofs.Parts.{overwritten-inside, overwritten-outside, length-overwritten, length-part, part-at}
 use Rattle.vk_objects.proofs.Fits.{range_inside}
-use Rattle.back_core.specs.Own.{Own, HostWrote, Enqueued, HostRead, log_by, log_of, batch_touches, own_touches}
+use Rattle.back_core.specs.Own.{Own, HostWrote, Enqueued, HostRead, log_by, log_of, batch_touches}
 use Rattle.link_fakes.specs.declared.holding.Status.{Status}
 use Rattle.link_fakes.specs.declared.holding.Status.TheVariants.{Held}
 use Rattle.link_fakes.specs.declared.holding.Holding.{Holding}
@@ -218,9 +218,9 @@ module _ (mine : List Own) (hs : List Holding) (os : Objects) (right : IsRight m
     in_bytes i le lt =
         let e : i ≡ at + (i - at) = omega (arith, le) in
         here_is i
-          ∙ (ap (λ k. cell_at (overwritten (bytes_of os id) at bytes) k) e
-          ∙ (overwritten-inside (bytes_of os id) at bytes (inside id at (length bytes) range) (i - at) (omega (arith, le, lt))
-          ∙ get_or_default bytes (i - at) UNDEFINED 0 (omega (arith, le, lt))))
+        ∙ (ap (λ k. cell_at (overwritten (bytes_of os id) at bytes) k) e
+        ∙ (overwritten-inside (bytes_of os id) at bytes (inside id at (length bytes) range) (i - at) (omega (arith, le, lt))
+        ∙ get_or_default bytes (i - at) UNDEFINED 0 (omega (arith, le, lt))))
 
     outside : (i : ℕ) → (i < at) ⊎ (at + length bytes ≤ i) → contents_of new id i ≡ contents_of os id i
     outside i out = here_is i ∙ overwritten-outside (bytes_of os id) at bytes (inside id at (length bytes) range) i out

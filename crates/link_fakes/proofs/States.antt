@@ -1,7 +1,7 @@
 -- What the group sees of a back in memory, call by call.
 use mathlib.Core.Path.{fun_ext}
 use Rattle.std.proofs.Common.{◌≡◌, ℕ, ◌<◌, Bool, true, false, List, [], ◌∷◌, ◌++◌, length, map, refl, sym, ap, subst, ◌∙◌, inl, inr, arith}
-use Rattle.std.specs.Prelude.{Option, Some, None, slice_get, slice_index, All}
+use Rattle.std.specs.Prelude.{Option, None, slice_get, slice_index, All}
 use Rattle.std.proofs.lemmas.Bool.{false≢true}
 use Rattle.std.proofs.lemmas.List.{map-append}
 use Rattle.std.proofs.lemmas.List.Elements.{All-weaker}
@@ -32,9 +32,9 @@ pub created_state : (f : FakeModel) (kind : Kind) → state_of (record f { holdi
 created_state f kind =
     let end : given_in (slice_get f.holdings (length f.holdings)) ≡ None = ap given_in (slice_get_past f.holdings (length f.holdings) (omega arith)) in
     same_objects f _ _ _ _ _ _
-      (at_end kind_in f.holdings (held_of kind))
-      (at_end held_in f.holdings (held_of kind))
-      (at_end given_in f.holdings (held_of kind) ∙ (ap (λ v. put (λ id. given_in (slice_get f.holdings id)) (length f.holdings) v) (sym end) ∙ put_same (λ id. given_in (slice_get f.holdings id)) (length f.holdings)))
+    (at_end kind_in f.holdings (held_of kind))
+    (at_end held_in f.holdings (held_of kind))
+    (at_end given_in f.holdings (held_of kind) ∙ (ap (λ v. put (λ id. given_in (slice_get f.holdings id)) (length f.holdings) v) (sym end) ∙ put_same (λ id. given_in (slice_get f.holdings id)) (length f.holdings)))
 
 pub fresh_state : (f : FakeModel) (mine : List Own) (os : Objects) → IsRight mine f.holdings os → (state_of f).mine ≡ mine → IsFresh (state_of f) (length f.holdings)
 fresh_state f mine os right same = record {
@@ -52,9 +52,9 @@ pub gave_state : (f : FakeModel) (id : ℕ) (uses : List QueueSerial) → id < l
 gave_state f id uses lt =
     let s = some_at f.holdings id lt in
     same_objects f _ _ _ _ _ _
-      (kinds_stay f.holdings id (Given uses))
-      (at_status held_in f.holdings id (Given uses) s.0 s.1)
-      (at_status given_in f.holdings id (Given uses) s.0 s.1)
+    (kinds_stay f.holdings id (Given uses))
+    (at_status held_in f.holdings id (Given uses) s.0 s.1)
+    (at_status given_in f.holdings id (Given uses) s.0 s.1)
 
 no_uses : (s : Status) → is_held s ≡ true → uses_of s ≡ None
 no_uses Held held = refl
@@ -66,9 +66,9 @@ abandoned_state f id lt held =
     let s = some_at f.holdings id lt in
     let end : given_in (slice_get f.holdings id) ≡ None = ap given_in s.1 ∙ no_uses s.0.status (sym (ap held_in s.1) ∙ held) in
     same_objects f _ _ _ _ _ _
-      (kinds_stay f.holdings id Gone)
-      (at_status held_in f.holdings id Gone s.0 s.1)
-      (at_status given_in f.holdings id Gone s.0 s.1 ∙ (ap (λ v. put (λ j. given_in (slice_get f.holdings j)) id v) (sym end) ∙ put_same (λ j. given_in (slice_get f.holdings j)) id))
+    (kinds_stay f.holdings id Gone)
+    (at_status held_in f.holdings id Gone s.0 s.1)
+    (at_status given_in f.holdings id Gone s.0 s.1 ∙ (ap (λ v. put (λ j. given_in (slice_get f.holdings j)) id v) (sym end) ∙ put_same (λ j. given_in (slice_get f.holdings j)) id))
 
 pub asked_state : (f : FakeModel) (index number : ℕ) → number ≡ slice_index f.done index → Completes (state_of f) (state_of f) index number
 asked_state f index number is = record {

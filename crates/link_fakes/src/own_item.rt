@@ -5,17 +5,7 @@ use vk_types::{Batch, HandleId};
 /// What the group had its back do.
 #[derive(Debug, Drop)]
 pub(crate) enum OwnItem {
-    Wrote {
-        id: HandleId,
-        at: u64,
-        bytes: Bytes,
-    },
-    Enqueued {
-        batch: Batch,
-    },
-    Fetched {
-        id: HandleId,
-        at: u64,
-        bytes: Bytes,
-    },
+    Wrote { id: HandleId, at: u64, bytes: Bytes },
+    Enqueued { batch: Batch },
+    Fetched { id: HandleId, at: u64, bytes: Bytes },
 }

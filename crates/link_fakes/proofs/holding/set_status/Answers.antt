@@ -1,4 +1,3 @@
-use Rattle.std.proofs.Common.{rules}
 use Rattle.link_fakes.proofs.Lists.{status-set}
 use Rattle.link_fakes.proofs.holding.set_status.Goals as goal
 

@@ -1,12 +1,7 @@
-use Rattle.std.proofs.Common.{◌≡◌, ◌<◌, ℕ, true, List, [], ◌∷◌, ◌++◌, length, map, refl, sym, ap, subst, ◌∙◌, arith}
-use Rattle.std.specs.Prelude.{slice_get, slice_index}
-use Rattle.std.proofs.lemmas.List.{map-append}
-use Rattle.vk_model.specs.Fitting.{HasRange}
-use Rattle.back_core.specs.Own.{Own, HostWrote, HostRead, Enqueued, batch_touches}
-use Rattle.back_core.specs.Needs.{MayTouch}
-use Rattle.link_fakes.specs.Fakes.{FakeModel, state_of, own_of, kind_in, held_in, IsRight}
-use Rattle.link_fakes.proofs.Rights.{kept_then, status_right, created_right, unchanged_right, read_right, wrote_right, executed_right, read_agrees, held_known, inside}
-use Rattle.link_fakes.proofs.States.{created_state, fresh_state, gave_state, abandoned_state, asked_state, touch_known, longer_state}
+use Rattle.std.proofs.Common.{refl}
+use Rattle.link_fakes.specs.Fakes.{FakeModel}
+use Rattle.link_fakes.proofs.Rights.{created_right}
+use Rattle.link_fakes.proofs.States.{created_state, fresh_state}
 use Rattle.link_fakes.proofs.fake_link.FakeLinkBackLink.create.Goals as goal
 
 pub invariant_of-self-2 : goal.invariant_of-self-2

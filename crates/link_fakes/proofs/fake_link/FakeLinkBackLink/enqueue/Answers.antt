@@ -1,12 +1,9 @@
-use Rattle.std.proofs.Common.{◌≡◌, ◌<◌, ℕ, true, List, [], ◌∷◌, ◌++◌, length, map, refl, sym, ap, subst, ◌∙◌, arith}
-use Rattle.std.specs.Prelude.{slice_get, slice_index}
-use Rattle.std.proofs.lemmas.List.{map-append}
-use Rattle.vk_model.specs.Fitting.{HasRange}
-use Rattle.back_core.specs.Own.{Own, HostWrote, HostRead, Enqueued, batch_touches}
+use Rattle.std.proofs.Common.{◌≡◌, ◌<◌, ℕ, true, length, sym, subst}
+use Rattle.back_core.specs.Own.{batch_touches}
 use Rattle.back_core.specs.Needs.{MayTouch}
-use Rattle.link_fakes.specs.Fakes.{FakeModel, state_of, own_of, kind_in, held_in, IsRight}
-use Rattle.link_fakes.proofs.Rights.{kept_then, status_right, created_right, unchanged_right, read_right, wrote_right, executed_right, read_agrees, held_known, inside}
-use Rattle.link_fakes.proofs.States.{created_state, fresh_state, gave_state, abandoned_state, asked_state, touch_known, longer_state}
+use Rattle.link_fakes.specs.Fakes.{FakeModel, state_of}
+use Rattle.link_fakes.proofs.Rights.{kept_then, executed_right}
+use Rattle.link_fakes.proofs.States.{touch_known, longer_state}
 use Rattle.link_fakes.proofs.fake_link.FakeLinkBackLink.enqueue.Goals as goal
 
 pub invariant_of-self : goal.invariant_of-self
@@ -15,7 +12,7 @@ invariant_of-self c =
     let known : (id : ℕ) → batch_touches c.args.batch id ≡ true → id < length f.holdings
     = λ id t. touch_known f _ _ c.self.invariant c.args.batch.index c.args.batch.number id (subst (λ (m : FakeModel). MayTouch (state_of m) c.args.batch.index c.args.batch.number id) (sym c.self.view_is) (c.requires.touched id t)) in
     kept_then _ _ _ _ _ (rw c.in-Ok.ensures.items at c.push_reserved.ensures.items)
-      (executed_right _ _ _ c.self.invariant c.args.batch c.execute_all.new.objects (rw (← c.as_slice.ensures) c.execute_all.ensures) known)
+    (executed_right _ _ _ c.self.invariant c.args.batch c.execute_all.new.objects (rw (← c.as_slice.ensures) c.execute_all.ensures) known)
 
 pub returns-in-Ok-clause-ok : goal.returns-in-Ok-clause-ok
 returns-in-Ok-clause-ok c =

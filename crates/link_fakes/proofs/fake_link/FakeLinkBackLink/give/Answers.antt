@@ -1,12 +1,8 @@
-use Rattle.std.proofs.Common.{◌≡◌, ◌<◌, ℕ, true, List, [], ◌∷◌, ◌++◌, length, map, refl, sym, ap, subst, ◌∙◌, arith}
-use Rattle.std.specs.Prelude.{slice_get, slice_index}
-use Rattle.std.proofs.lemmas.List.{map-append}
-use Rattle.vk_model.specs.Fitting.{HasRange}
-use Rattle.back_core.specs.Own.{Own, HostWrote, HostRead, Enqueued, batch_touches}
-use Rattle.back_core.specs.Needs.{MayTouch}
-use Rattle.link_fakes.specs.Fakes.{FakeModel, state_of, own_of, kind_in, held_in, IsRight}
-use Rattle.link_fakes.proofs.Rights.{kept_then, status_right, created_right, unchanged_right, read_right, wrote_right, executed_right, read_agrees, held_known, inside}
-use Rattle.link_fakes.proofs.States.{created_state, fresh_state, gave_state, abandoned_state, asked_state, touch_known, longer_state}
+use Rattle.std.proofs.Common.{◌≡◌, true, sym, subst}
+use Rattle.std.specs.Prelude.{slice_get}
+use Rattle.link_fakes.specs.Fakes.{FakeModel, held_in}
+use Rattle.link_fakes.proofs.Rights.{status_right, held_known}
+use Rattle.link_fakes.proofs.States.{gave_state}
 use Rattle.link_fakes.proofs.fake_link.FakeLinkBackLink.give.Goals as goal
 
 pub invariant_of-self : goal.invariant_of-self

@@ -1,12 +1,8 @@
-use Rattle.std.proofs.Common.{◌≡◌, ◌<◌, ℕ, true, List, [], ◌∷◌, ◌++◌, length, map, refl, sym, ap, subst, ◌∙◌, arith}
-use Rattle.std.specs.Prelude.{slice_get, slice_index}
-use Rattle.std.proofs.lemmas.List.{map-append}
+use Rattle.std.proofs.Common.{◌≡◌, true, length, map, sym, subst}
+use Rattle.std.specs.Prelude.{slice_get}
 use Rattle.vk_model.specs.Fitting.{HasRange}
-use Rattle.back_core.specs.Own.{Own, HostWrote, HostRead, Enqueued, batch_touches}
-use Rattle.back_core.specs.Needs.{MayTouch}
-use Rattle.link_fakes.specs.Fakes.{FakeModel, state_of, own_of, kind_in, held_in, IsRight}
-use Rattle.link_fakes.proofs.Rights.{kept_then, status_right, created_right, unchanged_right, read_right, wrote_right, executed_right, read_agrees, held_known, inside}
-use Rattle.link_fakes.proofs.States.{created_state, fresh_state, gave_state, abandoned_state, asked_state, touch_known, longer_state}
+use Rattle.link_fakes.specs.Fakes.{FakeModel, own_of, kind_in, held_in}
+use Rattle.link_fakes.proofs.Rights.{kept_then, read_right, read_agrees, held_known, inside}
 use Rattle.link_fakes.proofs.fake_link.FakeLinkBackLink.read_host.Goals as goal
 
 pub invariant_of-self-2 : goal.invariant_of-self-2
@@ -20,4 +16,4 @@ returns-clause-bytes c =
     let f : FakeModel = record { group = c.self.inside.group; mine = c.self.inside.mine.items; holdings = c.self.inside.holdings.items; done = c.self.inside.done } in
     let range : HasRange (kind_in (slice_get f.holdings c.args.id.0)) c.args.at (length c.args.out.now) = subst (λ (m : FakeModel). HasRange (kind_in (slice_get m.holdings c.args.id.0)) c.args.at (length c.args.out.now)) (sym c.self.view_is) c.requires.may.range in
     rw (← c.self.view_is, c.copy_from_slice.ensures.after, c.as_slice.ensures)
-      (read_agrees (map own_of f.mine) f.holdings c.self.inside.objects c.self.invariant c.args.id.0 c.args.at (length c.args.out.now) c.in_ok-copy.copy (inside (map own_of f.mine) f.holdings c.self.inside.objects c.self.invariant c.args.id.0 c.args.at (length c.args.out.now) range) c.in_ok-copy.ensures)
+    (read_agrees (map own_of f.mine) f.holdings c.self.inside.objects c.self.invariant c.args.id.0 c.args.at (length c.args.out.now) c.in_ok-copy.copy (inside (map own_of f.mine) f.holdings c.self.inside.objects c.self.invariant c.args.id.0 c.args.at (length c.args.out.now) range) c.in_ok-copy.ensures)
