@@ -1,0 +1,2 @@
+mod Sees
+mod Uses

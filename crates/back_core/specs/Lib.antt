@@ -1,0 +1,5 @@
+pub mod Own
+pub mod Link
+pub mod Needs
+pub mod Answers
+pub mod History

@@ -1,0 +1,14 @@
+//! The boundary between a share group and the device, and the back that keeps it.
+//!
+//! A share group reaches the device by a [`BackLink`] alone. What it sees there is one record, `Link` of
+//! `specs/Link.antt`, and each call is a function on that record. `specs/History.antt` has the record as a function of
+//! what happened to the back.
+#![tactic(auto)]
+
+mod back_event;
+mod back_link;
+mod laws;
+
+pub use back_event::BackEvent;
+pub use back_link::BackLink;
+pub use laws::{uses_are_low, what_a_group_sees};

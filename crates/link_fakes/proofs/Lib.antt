@@ -1,0 +1,4 @@
+mod Lists
+mod Rights
+mod States
+mod Trials

@@ -1,0 +1,5 @@
+mod Lists
+mod Events
+mod Counts
+mod Numbers
+pub mod Steps
