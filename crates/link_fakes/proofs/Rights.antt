@@ -27,7 +27,7 @@ use Rattle.vk_model.proofs.SameKinds.{eval_same_kinds}
 use Rattle.vk_objects.specs.declared.objects.Object.{Object}
 use Rattle.vk_objects.specs.declared.objects.Objects.{Objects}
 use Rattle.vk_objects.specs.Objects.{object_at, kind_of, kinds_of, bytes_in, bytes_of, contents_of, new_object, HasSize, HaveSizes, SetsObject, SetsBytes, IsUnchanged, Executes}
-use Rattle.vk_objects.proofs.Parts.{overwritten-inside, overwritten-outside, length-overwritten, length-part, part-at}
+use Rattle.vk_model.proofs.Parts.{overwritten-inside, overwritten-outside, length-overwritten, length-part, part-at}
 use Rattle.vk_objects.proofs.Fits.{range_inside}
 use Rattle.back_core.specs.Own.{Own, HostWrote, Enqueued, HostRead, log_by, log_of, batch_touches}
 use Rattle.link_fakes.specs.declared.holding.Status.{Status}

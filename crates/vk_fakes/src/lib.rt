@@ -8,3 +8,6 @@ mod soft;
 pub use fake::FakeDevice;
 pub use fuse::FuseDevice;
 pub use soft::SoftDevice;
+
+#[cfg(test)]
+mod tests;
