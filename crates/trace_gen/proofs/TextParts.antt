@@ -1,26 +1,27 @@
 -- The text of the trace, part by part, and the rounds, word by word.
-use Rattle.std.proofs.Common.{◌≡◌, ℕ, zero, suc, ◌+◌, ◌-◌, ◌*◌, ◌<◌, ◌≤◌, ◌++◌, List, [], ◌∷◌, refl, sym, ap, ◌∙◌, arith, append_assoc}
+use Rattle.std.proofs.Common.{◌≡◌, ℕ, zero, suc, ◌+◌, ◌-◌, ◌*◌, ◌<◌, ◌≤◌, ◌++◌, List, [], ◌∷◌, length, refl, sym, ap, ◌∙◌, arith, append_assoc}
 use Rattle.std.specs.Prelude.{codes}
-use Rattle.std.specs.List.{flat_map}
 use Rattle.std.proofs.lemmas.List.{append-nil}
 use Rattle.std.proofs.lemmas.Grind.{flat_map-append}
-use Rattle.rand_core.specs.Stream.{Stream, next_u64}
+use Rattle.rand_core.specs.Stream.{Stream}
 use Rattle.rand_core.specs.Steps.{first_words, stream_of, steps_u64_high}
 use Rattle.rand_core.proofs.StepsLemmas.{next_u64-stream_of}
 use Rattle.rand_xoshiro.specs.SplitMix64.{splitmix_seed}
 use Rattle.rand_xoshiro.specs.Xoshiro256.{of_seed, plus_plus}
 use Rattle.trace_gen.specs.Lines.{Words, line_text, lines_text, header, first_lines, last_lines}
-use Rattle.trace_gen.specs.Generated.{of_threads, rounds, next_round, after_words, stream_words, generated_lines, generated_text, words_of_number}
+use Rattle.trace_gen.specs.Generated.{of_threads, rounds, next_round, after_words, stream_words, call_lines, generated_lines, generated_text, words_of_number}
 
 pub both : (xs ys : List Words) → lines_text (xs ++ ys) ≡ lines_text xs ++ lines_text ys
 both xs ys = flat_map-append line_text xs ys
 
-five : (a b c d e : List Words) → lines_text (a ++ b ++ c ++ d ++ e) ≡ lines_text a ++ lines_text b ++ lines_text c ++ lines_text d ++ lines_text e
-five a b c d e = rw (both (a ++ b ++ c ++ d) e, both (a ++ b ++ c) d, both (a ++ b) c, both a b) refl
+five : (a b c d e : List Words) → lines_text (a ++ (b ++ c ++ d) ++ e) ≡ lines_text a ++ lines_text b ++ lines_text c ++ lines_text d ++ lines_text e
+five a b c d e =
+    rw (both (a ++ (b ++ c ++ d)) e, both a (b ++ c ++ d), both (b ++ c) d, both b c)
+    (ap (λ (x : List ℕ). x ++ lines_text e) (sym (append_assoc (lines_text a) (lines_text b ++ lines_text c) (lines_text d)) ∙ ap (λ (x : List ℕ). x ++ lines_text d) (sym (append_assoc (lines_text a) (lines_text b) (lines_text c)))))
 
 -- the text is that of its parts
 pub text_parts : (words : List ℕ) → generated_text words ≡ lines_text header ++ lines_text (of_threads first_lines) ++ lines_text (rounds words) ++ lines_text (of_threads last_lines) ++ lines_text ((codes "end" ∷ []) ∷ [])
-unfolding generated_text generated_lines
+unfolding generated_text generated_lines call_lines
 text_parts words = five header (of_threads first_lines) (rounds words) (of_threads last_lines) ((codes "end" ∷ []) ∷ [])
 
 -- the words of a generator are those of its stream
@@ -72,5 +73,14 @@ whole_text number start opened started rounded closed ended s none h1 h2 h3 h4 h
     let a : opened ≡ lines_text header = h1 ∙ ap (λ (x : List ℕ). x ++ lines_text header) none in
     let b : started ≡ lines_text header ++ lines_text (of_threads first_lines) = h2 ∙ ap (λ (x : List ℕ). x ++ lines_text (of_threads first_lines)) a in
     let c : rounded ≡ lines_text header ++ lines_text (of_threads first_lines) ++ lines_text (rounds (words_of_number number)) =
-      h3 ∙ ap (λ (x : List ℕ). x ++ lines_text (rounds (stream_words 2000 (stream_of (steps_u64_high plus_plus) s)))) b ∙ ap (λ (ws : List ℕ). lines_text header ++ lines_text (of_threads first_lines) ++ lines_text (rounds ws)) words in
+    h3 ∙ ap (λ (x : List ℕ). x ++ lines_text (rounds (stream_words 2000 (stream_of (steps_u64_high plus_plus) s)))) b ∙ ap (λ (ws : List ℕ). lines_text header ++ lines_text (of_threads first_lines) ++ lines_text (rounds ws)) words in
     h5 ∙ ap (λ (x : List ℕ). x ++ lines_text ((codes "end" ∷ []) ∷ [])) (h4 ∙ ap (λ (x : List ℕ). x ++ lines_text (of_threads last_lines)) c) ∙ sym (text_parts (words_of_number number))
+
+length_first : (n : ℕ) (s : List ℕ) → length (first_words plus_plus n s) ≡ n
+unfolding first_words
+length_first zero s = refl
+length_first (suc n) s = ap suc (length_first n (plus_plus s).1)
+
+pub enough_words : (number : ℕ) → length (words_of_number number) ≤ 2000
+unfolding words_of_number
+enough_words number = omega (arith, length_first 2000 (of_seed (splitmix_seed 32 number)))

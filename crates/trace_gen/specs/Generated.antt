@@ -1,9 +1,11 @@
 -- The generated trace: its words and its text.
-use Rattle.std.specs.Prelude.{ℕ, zero, suc, List, [], ◌∷◌, ◌++◌, codes}
+use Rattle.std.specs.Prelude.{◌≡◌, ℕ, zero, suc, List, [], ◌∷◌, ◌++◌, codes, map}
 use Rattle.rand_core.specs.Stream.{Stream, next_u64}
 use Rattle.rand_core.specs.Steps.{first_words}
 use Rattle.rand_xoshiro.specs.SplitMix64.{splitmix_seed}
 use Rattle.rand_xoshiro.specs.Xoshiro256.{of_seed, plus_plus}
+use Rattle.trace_text.specs.Reading.{Plan}
+use Rattle.trace_text.specs.Traces.{Spells}
 use Rattle.trace_gen.specs.Lines.{Words, lines_text, header, first_lines, drawn_lines, last_lines}
 
 -- of each of the four threads in their order
@@ -19,9 +21,13 @@ unfoldable pub rounds : List ℕ → List Words
 rounds (w0 ∷ w1 ∷ w2 ∷ w3 ∷ words) = round_lines w0 w1 w2 w3 ++ rounds words
 rounds _ = []
 
+-- the lines of the calls
+unfoldable pub call_lines : List ℕ → List Words
+call_lines words = of_threads first_lines ++ rounds words ++ of_threads last_lines
+
 -- all lines of the trace that words make
 unfoldable pub generated_lines : List ℕ → List Words
-generated_lines words = header ++ of_threads first_lines ++ rounds words ++ of_threads last_lines ++ (codes "end" ∷ []) ∷ []
+generated_lines words = header ++ call_lines words ++ (codes "end" ∷ []) ∷ []
 
 -- the text of the trace that words make
 unfoldable pub generated_text : List ℕ → List ℕ
@@ -44,3 +50,7 @@ next_round s = round_lines (next_u64 s).0 (next_u64 (after_words 1 s)).0 (next_u
 unfoldable pub stream_words : ℕ → Stream → List ℕ
 stream_words zero s = []
 stream_words (suc n) s = (next_u64 s).0 ∷ stream_words n (next_u64 s).1
+
+-- the text spells a trace of four threads, two in share group 0 and two in share group 1
+abbrev pub IsTraceOfFour : List ℕ → Type 0
+IsTraceOfFour text = (threads : List Plan) × Spells text threads × (map (λ plan. plan.group) threads ≡ 0 ∷ 0 ∷ 1 ∷ 1 ∷ [])

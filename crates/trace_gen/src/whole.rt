@@ -4,7 +4,7 @@ ghost use Rattle.std.specs.Prelude.{◌≡◌, ◌++◌, OnOk, IfOk, string_byte
 ghost use Rattle.rand_core.specs.Steps.{stream_of, steps_u64_high};
 ghost use Rattle.rand_xoshiro.specs.Xoshiro256.{plus_plus};
 ghost use Rattle.trace_gen.specs.Lines.{lines_text, header, first_lines, last_lines};
-ghost use Rattle.trace_gen.specs.Generated.{of_threads, rounds, stream_words, next_round, after_words, generated_text, words_of_number};
+ghost use Rattle.trace_gen.specs.Generated.{of_threads, rounds, stream_words, next_round, after_words, generated_text, words_of_number, IsTraceOfFour};
 
 use crate::first::put_first_lines;
 use crate::last::put_last_lines;
@@ -21,7 +21,9 @@ const HEADER: &str =
 
 /// The text of the trace of this number. It takes time and memory in proportion to the text, which has some 100,000 bytes.
 pub fn generate(alloc: Global, number: u64) -> Result<Vec<u8>, AllocError>
-    ensures { IfOk result (λ text. text.items ≡ generated_text (words_of_number number)) }
+    ensures text { IfOk result (λ text. text.items ≡ generated_text (words_of_number number)) }
+    // `parse` accepts it.
+    ensures accepted { IfOk result (λ text. IsTraceOfFour text.items) }
 {
     let mut out = String::new(alloc);
     let mut words = Xoshiro256PlusPlus::seed_from_u64(number);
