@@ -1,0 +1,10 @@
+use Rattle.std.proofs.Common.{ℕ, List, ◌++◌, refl, ap, ◌∙◌}
+use Rattle.std.specs.Prelude.{codes, string_bytes}
+use Rattle.std.specs.Fmt.{decimal}
+use Rattle.trace_gen.specs.Lines.{texels_lines}
+use Rattle.trace_gen.proofs.LineLaws.{one_line, step_end}
+use Rattle.trace_gen.proofs.rounds.put_texels.Goals as goal
+
+pub returns : goal.returns
+unfolding texels_lines
+returns c = one_line _ _ (texels_lines c.args.thread c.args.a c.args.b) _ refl (c.in_ok-write.ensures.bytes ∙ ap (λ (x : List ℕ). string_bytes c.args.out.now ++ (decimal c.args.thread ++ (codes " tsub " ++ (decimal c.args.b ++ (codes " " ++ (decimal c.args.b ++ (codes " 4 4 rgba_integer unsigned_byte %64," ++ x))))))) (step_end c.args.a))
