@@ -1,0 +1,5 @@
+pub mod NumberedNames
+pub mod Sound
+pub mod SoundNames
+pub mod LowestNames
+pub mod Generated
