@@ -1,6 +1,6 @@
 -- Names that are generated, and forgotten.
-use Rattle.std.proofs.Common.{◌≡◌, ◌≢◌, ℕ, ◌==◌, ◌||◌, zero, suc, Bool, true, false, not, cond, is_some, Option, Some, None, List, [], ◌∷◌, length, map, take, drop, refl, sym, ap, ◌∙◌, arith}
-use Rattle.std.specs.List.{filter, list_any, range_with_len}
+use Rattle.std.proofs.Common.{◌≡◌, ℕ, ◌==◌, ◌||◌, zero, suc, Bool, true, false, not, cond, is_some, Option, Some, None, List, [], ◌∷◌, length, take, drop, refl, sym, ap, ◌∙◌, arith}
+use Rattle.std.specs.List.{list_any, range_with_len}
 use Rattle.std.specs.Option.{option_map}
 use Rattle.std.proofs.lemmas.Bool.{false≢true}
 use Rattle.std.proofs.lemmas.Grind.{common_steps}
@@ -9,9 +9,8 @@ use Rattle.gl_model.specs.GroupEffect.{lowest_unused, with_generated}
 use Rattle.gl_model.proofs.TableLaws.{is_at-nat_cmp, entry-with_entry}
 use Rattle.gl_objects.specs.declared.ids.ObjectId.{ObjectId}
 use Rattle.gl_objects.specs.declared.object.Object.{Object}
-use Rattle.gl_objects.specs.Ids.{number_of}
 use Rattle.gl_objects.specs.Names.{AreUnused, without_all}
-use Rattle.gl_objects.specs.Objects.{numbered, IsSound}
+use Rattle.gl_objects.specs.Objects.{IsSound}
 use Rattle.gl_objects.proofs.LowestNames.{filter-same}
 use Rattle.gl_objects.proofs.NumberedNames.{entry-each_value, each_value-with_entry}
 

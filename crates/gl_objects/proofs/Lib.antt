@@ -3,3 +3,4 @@ pub mod Sound
 pub mod SoundNames
 pub mod LowestNames
 pub mod Generated
+pub mod Laws

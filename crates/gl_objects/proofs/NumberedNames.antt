@@ -1,5 +1,5 @@
 -- Names with their objects told by number, after a change of the names.
-use Rattle.std.proofs.Common.{◌≡◌, ℕ, ◌+◌, ◌<◌, ◌==◌, ◌&&◌, Bool, true, false, not, is_some, map, List, sym, Option, Some, None, [], ◌∷◌, refl, ap, ◌∙◌, arith}
+use Rattle.std.proofs.Common.{◌≡◌, ℕ, ◌+◌, ◌<◌, true, is_some, map, List, sym, Option, Some, None, [], ◌∷◌, refl, ap, ◌∙◌, arith}
 use Rattle.std.specs.Option.{option_map, option_and_then}
 use Rattle.std.specs.Ordering.{nat_cmp}
 use Rattle.std.specs.BTreeMap.{is_at}
@@ -7,7 +7,6 @@ use Rattle.std.proofs.lemmas.Grind.{common_steps}
 use Rattle.std.proofs.lemmas.Map.Made.{lookup-map_values}
 use Rattle.tables.specs.Table.{Entries, entry, with_entry, without, each_value}
 use Rattle.std.specs.List.{filter}
-use Rattle.gl_model.specs.declared.state.Names.{Names}
 use Rattle.gl_model.specs.GroupEffect.{object_of, makes_object, after_bind}
 use Rattle.gl_objects.specs.declared.ids.ObjectId.{ObjectId}
 use Rattle.gl_objects.specs.Ids.{number_of}

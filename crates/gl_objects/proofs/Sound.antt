@@ -1,6 +1,6 @@
 -- A table stays sound as its names and objects change.
-use Rattle.std.proofs.Common.{◌≡◌, ◌≢◌, ◌⊎◌, ◌↔◌, ℕ, ◌+◌, ◌<◌, ◌==◌, Bool, true, false, cond, List, [], length, Option, Some, None, get_or, set, refl, sym, ap, ◌∙◌, inl, inr, arith}
-use Rattle.std.specs.Option.{option_map, option_and_then}
+use Rattle.std.proofs.Common.{◌≡◌, ◌≢◌, ◌⊎◌, ℕ, ◌<◌, ◌==◌, Bool, true, false, cond, List, length, Option, Some, None, set, refl, sym, ap, ◌∙◌, inl, inr, arith}
+use Rattle.std.specs.Option.{option_and_then}
 use Rattle.std.proofs.lemmas.Bool.{cases_eq}
 use Rattle.std.proofs.lemmas.Grind.{common_steps}
 use Rattle.std.proofs.lemmas.List.{get_or-set_same, get_or-set_other, get_or_past}
@@ -8,7 +8,7 @@ use Rattle.tables.specs.Table.{Entries, entry}
 use Rattle.gl_objects.specs.declared.ids.ObjectId.{ObjectId}
 use Rattle.gl_objects.specs.declared.object.Object.{Object}
 use Rattle.gl_objects.specs.Ids.{number_of, key_of}
-use Rattle.gl_objects.specs.Objects.{object_at, is_unreferenced, existing, if_referenced, with_holds, without_name, named_object, Puts, IsSound}
+use Rattle.gl_objects.specs.Objects.{object_at, is_unreferenced, existing, if_referenced, with_holds, named_object, Puts, IsSound}
 
 pub Puts-set : (objects : List (Option Object)) (key : ℕ) (slot : Option Object) → key < length objects → Puts objects (set objects key slot) key slot
 Puts-set objects key slot within = record {

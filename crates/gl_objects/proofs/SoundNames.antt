@@ -1,14 +1,13 @@
 -- A table stays sound as a name loses its object, or gets a new one.
-use Rattle.std.proofs.Common.{◌≡◌, ◌≢◌, ◌⊎◌, ℕ, ◌+◌, ◌<◌, ◌==◌, Bool, true, false, cond, List, length, Option, Some, None, set, refl, sym, ap, ◌∙◌, inl, inr, arith}
+use Rattle.std.proofs.Common.{◌≡◌, ◌≢◌, ◌⊎◌, ℕ, ◌+◌, ◌<◌, false, List, Option, Some, None, set, refl, sym, ap, ◌∙◌, inl, inr, arith}
 use Rattle.std.specs.Option.{option_and_then, option_map_or}
 use Rattle.std.proofs.lemmas.Bool.{cases_eq}
-use Rattle.std.proofs.lemmas.Grind.{common_steps}
 use Rattle.tables.specs.Table.{Entries, entry}
 use Rattle.gl_objects.specs.declared.ids.ObjectId.{ObjectId}
 use Rattle.gl_objects.specs.declared.object.Object.{Object}
 use Rattle.gl_objects.specs.Ids.{number_of, key_of}
 use Rattle.gl_objects.specs.Names.{Sets}
-use Rattle.gl_objects.specs.Objects.{object_at, existing, is_unreferenced, if_referenced, without_name, named_object, changed, Puts, IsSound}
+use Rattle.gl_objects.specs.Objects.{object_at, is_unreferenced, if_referenced, without_name, named_object, changed, Puts, IsSound}
 use Rattle.gl_objects.proofs.Sound.{Puts-set, within, slot_cases, kept_is, existing_named}
 
 -- an object before a name was taken

@@ -1,5 +1,5 @@
 -- What an id tells of its object.
-use Rattle.std.specs.Prelude.{ℕ, ◌+◌, ◌*◌, ◌/◌, ◌%◌, ◌^◌}
+use Rattle.std.specs.Prelude.{ℕ, ◌/◌, ◌%◌, ◌^◌}
 use Rattle.gl_objects.specs.declared.ids.ObjectId.{ObjectId}
 
 -- how many objects of the kind were made before this one

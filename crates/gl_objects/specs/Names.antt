@@ -1,5 +1,5 @@
 -- What the map from names has after some were set or taken out.
-use Rattle.std.specs.Prelude.{ℕ, ◌==◌, ◌≡◌, ◌≢◌, Bool, false, Option, List, [], ◌∷◌}
+use Rattle.std.specs.Prelude.{ℕ, ◌==◌, ◌≡◌, ◌≢◌, false, Option, List, [], ◌∷◌}
 use Rattle.std.specs.List.{list_any}
 use Rattle.tables.specs.Table.{Entries, entry, has, without}
 

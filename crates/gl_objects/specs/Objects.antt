@@ -1,9 +1,10 @@
 -- The names and references of one kind of object.
-use Rattle.std.specs.Prelude.{ℕ, ◌+◌, ◌-◌, ◌==◌, ◌&&◌, ◌≡◌, ◌<◌, ◌≢◌, Bool, false, Option, Some, None, List, map, is_none, is_some, if◌then◌else◌, slice_index_or, slice_set}
+use Rattle.std.specs.Prelude.{ℕ, ◌==◌, ◌&&◌, ◌≡◌, ◌<◌, ◌≢◌, Bool, false, Option, Some, None, List, map, is_none, is_some, if◌then◌else◌, slice_index_or, slice_set}
 use Rattle.std.specs.List.{filter}
 use Rattle.std.specs.Option.{option_and_then, option_map_or, option_map}
 use Rattle.tables.specs.Table.{Entries, entry, each_value}
 use Rattle.gl_model.specs.declared.state.Names.{Names}
+use Rattle.gl_model.specs.GroupEffect.{object_of}
 use Rattle.gl_objects.specs.declared.ids.ObjectId.{ObjectId}
 use Rattle.gl_objects.specs.declared.object.Object.{Object}
 use Rattle.gl_objects.specs.Ids.{number_of, key_of}
@@ -73,3 +74,11 @@ pub record IsSound (names : Entries (Option ObjectId)) (made : ℕ) (objects : L
   -- the object of a name has that name, and the name of an object has that object
   pub named : (name : ℕ) (id : ObjectId) → entry name names ≡ Some (Some id) → (holds : ℕ) × (object_at objects (key_of id) ≡ Some (named_object id name holds))
   pub listed : (key : ℕ) (o : Object) (name : ℕ) → object_at objects key ≡ Some o → o.name ≡ Some name → (id : ObjectId) × (entry name names ≡ Some (Some id)) × (key_of id ≡ key)
+
+-- What callers may know of each table: an object exists exactly while it has a name or is held, and has a number of its own.
+pub record IsLawful (t : NamedObjects) : Type 0 where
+  pub earlier : (key : ℕ) (o : Object) → object_at t.objects key ≡ Some o → o.number < t.names.made
+  pub apart : (j k : ℕ) (a b : Object) → object_at t.objects j ≡ Some a → object_at t.objects k ≡ Some b → a.number ≡ b.number → j ≡ k
+  pub referenced : (key : ℕ) (o : Object) → object_at t.objects key ≡ Some o → is_unreferenced o ≡ false
+  pub named : (name number : ℕ) → object_of t.names name ≡ Some number → (key : ℕ) × (holds : ℕ) × (object_at t.objects key ≡ Some (record { number = number; name = Some name; holds = holds }))
+  pub listed : (key : ℕ) (o : Object) (name : ℕ) → object_at t.objects key ≡ Some o → o.name ≡ Some name → object_of t.names name ≡ Some o.number

@@ -1,8 +1,8 @@
-ghost use Rattle.std.specs.Prelude.{◌≡◌, ◌<◌, ◌+◌, ◌-◌, ◌^◌, ◌&&◌, ◌==◌, IsSome, IfOk, IfSome, OnOk, OnErr, MatchOption, [], None, Some, is_none, slice_get};
+ghost use Rattle.std.specs.Prelude.{◌≡◌, ◌<◌, ◌+◌, ◌-◌, ◌^◌, ◌&&◌, ◌==◌, ◌↔◌, IsTrue, IsSome, IfOk, IfSome, OnOk, OnErr, MatchOption, [], None, Some, is_none, slice_get};
 ghost use Rattle.std.specs.Option.{option_map, option_map_or};
 ghost use Rattle.gl_model.specs.GroupEffect.{object_of, after_bind, after_delete, lowest_unused, with_generated};
 ghost use Rattle.gl_objects.specs.Ids.{number_of, key_of};
-ghost use Rattle.gl_objects.specs.Objects.{existing, holds_of, name_of, changed, with_holds, without_name, named_object, object_at, object_names, Puts};
+ghost use Rattle.gl_objects.specs.Objects.{existing, holds_of, name_of, changed, with_holds, without_name, named_object, object_at, object_names, Puts, IsLawful};
 
 use crate::ids::ObjectId;
 use crate::names::{give_object, object_of, remove_name};
@@ -50,6 +50,7 @@ impl NameTable {
     pub fn lookup(&self, name: u32) -> Option<ObjectId>
         ensures object { option_map number_of result ≡ object_of self.now.names name }
         ensures id { IfSome result (λ id. name_of self.now.objects id ≡ Some name) }
+        ensures law { IsLawful self.now }
     {
         object_of(&self.names, name)
     }
@@ -85,7 +86,8 @@ impl NameTable {
 
     /// Whether an object has no name and no hold, and so has ended.
     pub fn unreferenced(&self, id: ObjectId) -> bool
-        ensures { result ≡ (is_none (name_of self.now.objects id) && (holds_of self.now.objects id == 0)) }
+        ensures answer { result ≡ (is_none (name_of self.now.objects id) && (holds_of self.now.objects id == 0)) }
+        ensures exists { IsTrue result ↔ (existing self.now.objects id ≡ None) }
     {
         existing(&self.objects, id).is_none()
     }

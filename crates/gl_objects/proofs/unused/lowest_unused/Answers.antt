@@ -1,7 +1,5 @@
-use Rattle.std.proofs.Common.{◌≡◌, ◌+◌, ◌++◌, not, length, take, ap, sym, ◌∙◌, rules, arith, List, ℕ}
-use Rattle.std.specs.List.{filter, range_with_len}
+use Rattle.std.proofs.Common.{not, length, ap, ◌∙◌, arith, ℕ}
 use Rattle.tables.specs.Table.{has}
-use Rattle.gl_objects.specs.Names.{AreUnused}
 use Rattle.gl_objects.proofs.LowestNames.{lowest_unused-found, AreUnused-range, filter_range_more}
 use Rattle.gl_objects.proofs.unused.lowest_unused.Goals as goal
 

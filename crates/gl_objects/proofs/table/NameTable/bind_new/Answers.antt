@@ -1,7 +1,6 @@
 use Rattle.std.proofs.Common.{◌≡◌, ap, sym, ◌∙◌, Some}
-use Rattle.gl_model.specs.GroupEffect.{object_of}
-use Rattle.gl_objects.specs.Ids.{number_of, key_of}
-use Rattle.gl_objects.specs.Objects.{object_at, named_object}
+use Rattle.gl_objects.specs.Ids.{key_of}
+use Rattle.gl_objects.specs.Objects.{object_at}
 use Rattle.gl_objects.proofs.NumberedNames.{no_object-numbered, after_bind-numbered}
 use Rattle.gl_objects.proofs.SoundNames.{IsSound-bound}
 use Rattle.gl_objects.proofs.table.NameTable.bind_new.Goals as goal

@@ -1,8 +1,6 @@
-use Rattle.std.proofs.Common.{ap, sym, ◌∙◌}
+use Rattle.std.proofs.Common.{ap}
 use Rattle.std.specs.Option.{option_map}
-use Rattle.gl_model.specs.declared.state.Names.{Names}
 use Rattle.gl_objects.specs.Ids.{number_of}
-use Rattle.gl_objects.specs.Objects.{numbered}
 use Rattle.gl_objects.proofs.NumberedNames.{object_of-numbered, each_value-without}
 use Rattle.gl_objects.proofs.SoundNames.{IsSound-deleted}
 use Rattle.gl_objects.proofs.table.NameTable.delete.Goals as goal

@@ -1,8 +1,7 @@
-use Rattle.std.proofs.Common.{◌≡◌, ap, sym, ◌∙◌}
+use Rattle.std.proofs.Common.{ap, sym, ◌∙◌}
 use Rattle.std.specs.Option.{option_map}
-use Rattle.gl_model.specs.GroupEffect.{lowest_unused, with_generated}
+use Rattle.gl_model.specs.GroupEffect.{with_generated}
 use Rattle.gl_objects.specs.Ids.{number_of}
-use Rattle.gl_objects.specs.Names.{AreUnused}
 use Rattle.gl_objects.specs.Objects.{numbered}
 use Rattle.gl_objects.proofs.Generated.{IsSound-generated, each_value-with_generated, lowest_unused-each_value}
 use Rattle.gl_objects.proofs.table.NameTable.gen_.Goals as goal

@@ -1,6 +1,4 @@
-use Rattle.std.proofs.Common.{sym, ◌∙◌, ap}
-use Rattle.std.specs.Prelude.{slice_set}
-use Rattle.gl_objects.specs.Objects.{if_referenced}
+use Rattle.std.proofs.Common.{sym, ◌∙◌}
 use Rattle.gl_objects.proofs.Sound.{IsSound-changed_holds}
 use Rattle.gl_objects.proofs.table.NameTable.hold.Goals as goal
 
