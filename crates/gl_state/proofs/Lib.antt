@@ -1,0 +1,4 @@
+pub mod Retained
+pub mod Rising
+pub mod Swept
+pub mod Changed

@@ -1,0 +1,24 @@
+-- Changes of the context that is current on a thread.
+use Rattle.std.specs.Prelude.{ℕ, ◌==◌, Option, map, if◌then◌else◌}
+use Rattle.std.specs.Option.{option_map, option_map_or}
+use Rattle.tables.specs.Table.{Entries}
+use Rattle.gl_model.specs.declared.state.Context.{Context}
+use Rattle.gl_model.specs.declared.state.GroupState.{GroupState}
+use Rattle.gl_model.specs.Bindings.{current_entry}
+
+-- one context changed
+abbrev pub changed_context : ℕ → (Context → Context) → Entries Context → Entries Context
+changed_context number change contexts = map (λ e. (e.0, if e.0 == number then change e.1 else e.1)) contexts
+
+-- the context of a number changed, if there is a number
+abbrev pub changed_if : Option ℕ → (Context → Context) → Entries Context → Entries Context
+changed_if number change contexts = option_map_or (λ n. changed_context n change contexts) number contexts
+
+-- the number of the context that is current on a thread
+abbrev pub current_number : GroupState → ℕ → Option ℕ
+current_number group thread = option_map (λ e. e.0) (current_entry group thread)
+
+-- the group after the context that is current on a thread was changed
+abbrev pub after_change : GroupState → ℕ → (Context → Context) → GroupState
+after_change group thread change =
+    record group { contexts = changed_if (current_number group thread) change group.contexts }
