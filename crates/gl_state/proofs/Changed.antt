@@ -1,6 +1,6 @@
 -- The effect of a call that changes the current context, and no reference of it.
 use Rattle.std.proofs.Common.{◌≡◌, ℕ, ◌==◌, ◌||◌, Bool, true, false, cond, List, [], ◌∷◌, Option, Some, None, map, sym, ap, ◌∙◌, refl, arith}
-use Rattle.std.specs.Option.{option_map}
+use Rattle.std.specs.Option.{option_map, option_map_or}
 use Rattle.gl_calls.specs.declared.call.Call.{Call}
 use Rattle.gl_calls.specs.Egl.{is_egl_call}
 use Rattle.tables.specs.Table.{Entries, entry, with_entry}
@@ -18,6 +18,13 @@ pub changed_current : (group : GroupState) (thread : ℕ) (change : Context → 
 changed_current group thread change e kept found =
     ap (λ contexts. record group { contexts = contexts })
     (changed_entry change e.0 e.1 group.contexts kept.contexts (found_entry (λ x. same_option x.1.thread (Some thread)) group.contexts e kept.contexts found))
+
+noted_at : (group : GroupState) (thread : ℕ) (change : Context → Context) (found : Option (ℕ × Context)) → IsKept group → current_entry group thread ≡ found → record group { contexts = changed_if (option_map (λ e. e.0) found) change group.contexts } ≡ option_map_or (λ e. with_context group e.0 (change e.1)) found group
+noted_at group thread change None kept found = refl
+noted_at group thread change (Some e) kept found = changed_current group thread change e kept found
+
+pub after_change-noted : (group : GroupState) (thread : ℕ) (change : Context → Context) → IsKept group → after_change group thread change ≡ option_map_or (λ e. with_context group e.0 (change e.1)) (current_entry group thread) group
+after_change-noted group thread change kept = noted_at group thread change (current_entry group thread) kept refl
 
 module _ (group : GroupState) (thread : ℕ) (change : Context → Context) (kept : IsKept group) (keeps : KeepsReferences change) where
   changed_is_kept : (number : Option ℕ) → IsKept (record group { contexts = changed_if number change group.contexts })

@@ -2,3 +2,4 @@ pub mod Retained
 pub mod Rising
 pub mod Swept
 pub mod Changed
+pub mod Keeping

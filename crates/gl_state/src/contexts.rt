@@ -1,9 +1,11 @@
 // Changes of one context.
-ghost use Rattle.std.specs.Prelude.{◌≡◌, Some};
+ghost use Rattle.std.specs.Prelude.{◌≡◌, ◌||◌, IsTrue, not, Some, if◌then◌else◌};
 ghost use Rattle.std.specs.Option.{option_map};
 ghost use Rattle.std.specs.List.{find};
 ghost use Rattle.std.specs.Map.Iter.{deref_pair};
 ghost use Rattle.gl_model.specs.Bindings.{same_option};
+ghost use Rattle.formats.specs.Rows.{is_alignment};
+ghost use Rattle.gl_calls.specs.Words.{is_align_parameter};
 ghost use Rattle.gl_model.specs.GroupEffect.{with_parameter};
 ghost use Rattle.gl_model.specs.Legal.{with_gl_error};
 ghost use Rattle.gl_model.specs.declared.state.Context.{Context as Held};
@@ -50,6 +52,15 @@ fn noted(flag: GlError, error: GlError) -> GlError
     }
 }
 
+/// Notes an error in a context, if it is the one.
+fn note(context: &mut Context, is_it: bool, error: GlError)
+    ensures { context.new ≡ (if is_it then with_gl_error error context.old else context.old) }
+{
+    if is_it {
+        context.error = noted(context.error, error);
+    }
+}
+
 /// Notes an error in the context of a number.
 pub fn note_error(contexts: &mut Table<Context>, number: Option<u32>, error: GlError)
     ensures { contexts.new ≡ changed_if number (with_gl_error error) contexts.old }
@@ -58,11 +69,18 @@ pub fn note_error(contexts: &mut Table<Context>, number: Option<u32>, error: GlE
         return;
     };
     contexts.retain(|n, context| {
-        if *n == number {
-            context.error = noted(context.error, error);
-        }
+        note(context, *n == number, error);
         true
     });
+}
+
+/// Clears the error of a context, if it is the one.
+fn clear(context: &mut Context, is_it: bool)
+    ensures { context.new ≡ (if is_it then record context.old { error = GlError.NoError } else context.old) }
+{
+    if is_it {
+        context.error = GlError::NoError;
+    }
 }
 
 /// Clears the error of the context of a number.
@@ -73,17 +91,63 @@ pub fn clear_error(contexts: &mut Table<Context>, number: Option<u32>)
         return;
     };
     contexts.retain(|n, context| {
-        if *n == number {
-            context.error = GlError::NoError;
-        }
+        clear(context, *n == number);
         true
     });
 }
 
-/// Sets a pixel store parameter of a context.
-fn with_parameter(context: &mut Context, parameter: StoreParameter, value: u32)
-    ensures { context.new ≡ with_parameter context.old parameter value }
+/// Turns the scissor test of a context on or off, if it is the one.
+fn set_test(context: &mut Context, is_it: bool, on: bool)
+    ensures { context.new ≡ (if is_it then record context.old { scissor_on = on } else context.old) }
 {
+    if is_it {
+        context.scissor_on = on;
+    }
+}
+
+/// Turns the scissor test of the context of a number on or off.
+pub fn set_scissor_test(contexts: &mut Table<Context>, number: Option<u32>, on: bool)
+    ensures { contexts.new ≡ changed_if number (λ c. record c { scissor_on = on }) contexts.old }
+{
+    let Some(number) = number else {
+        return;
+    };
+    contexts.retain(|n, context| {
+        set_test(context, *n == number, on);
+        true
+    });
+}
+
+/// Sets the scissor box of a context, if it is the one.
+fn set_box(context: &mut Context, is_it: bool, scissor: ScissorBox)
+    ensures { context.new ≡ (if is_it then record context.old { scissor = scissor } else context.old) }
+{
+    if is_it {
+        context.scissor = scissor;
+    }
+}
+
+/// Sets the scissor box of the context of a number.
+pub fn set_scissor(contexts: &mut Table<Context>, number: Option<u32>, scissor: ScissorBox)
+    ensures { contexts.new ≡ changed_if number (λ c. record c { scissor = scissor }) contexts.old }
+{
+    let Some(number) = number else {
+        return;
+    };
+    contexts.retain(|n, context| {
+        set_box(context, *n == number, scissor);
+        true
+    });
+}
+
+/// Sets a pixel store parameter of a context, if it is the one.
+fn set_store(context: &mut Context, is_it: bool, parameter: StoreParameter, value: u32)
+    requires { IsTrue (not (is_align_parameter parameter) || is_alignment value) }
+    ensures { context.new ≡ (if is_it then with_parameter context.old parameter value else context.old) }
+{
+    if !is_it {
+        return;
+    }
     match parameter {
         StoreParameter::PackAlign => context.pack.align = value,
         StoreParameter::PackRow => context.pack.row = value,
@@ -104,45 +168,14 @@ pub fn set_parameter(
     parameter: StoreParameter,
     value: u32,
 )
+    requires { IsTrue (not (is_align_parameter parameter) || is_alignment value) }
     ensures { contexts.new ≡ changed_if number (λ c. with_parameter c parameter value) contexts.old }
 {
     let Some(number) = number else {
         return;
     };
     contexts.retain(|n, context| {
-        if *n == number {
-            with_parameter(context, parameter, value);
-        }
-        true
-    });
-}
-
-/// Turns the scissor test of the context of a number on or off.
-pub fn set_scissor_test(contexts: &mut Table<Context>, number: Option<u32>, on: bool)
-    ensures { contexts.new ≡ changed_if number (λ c. record c { scissor_on = on }) contexts.old }
-{
-    let Some(number) = number else {
-        return;
-    };
-    contexts.retain(|n, context| {
-        if *n == number {
-            context.scissor_on = on;
-        }
-        true
-    });
-}
-
-/// Sets the scissor box of the context of a number.
-pub fn set_scissor(contexts: &mut Table<Context>, number: Option<u32>, scissor: ScissorBox)
-    ensures { contexts.new ≡ changed_if number (λ c. record c { scissor = scissor }) contexts.old }
-{
-    let Some(number) = number else {
-        return;
-    };
-    contexts.retain(|n, context| {
-        if *n == number {
-            context.scissor = scissor;
-        }
+        set_store(context, *n == number, parameter, value);
         true
     });
 }
