@@ -1,9 +1,8 @@
 -- The effect of a call that changes the current context, and no reference of it.
-use Rattle.std.proofs.Common.{◌≡◌, ℕ, ◌==◌, ◌||◌, Bool, true, false, cond, List, [], ◌∷◌, Option, Some, None, map, sym, ap, ◌∙◌, refl, arith}
+use Rattle.std.proofs.Common.{◌≡◌, ℕ, ◌==◌, false, cond, Option, Some, None, sym, ap, ◌∙◌, refl}
 use Rattle.std.specs.Option.{option_map, option_map_or}
 use Rattle.gl_calls.specs.declared.call.Call.{Call}
 use Rattle.gl_calls.specs.Egl.{is_egl_call}
-use Rattle.tables.specs.Table.{Entries, entry, with_entry}
 use Rattle.gl_model.specs.declared.state.Context.{Context}
 use Rattle.gl_model.specs.declared.state.GroupState.{GroupState}
 use Rattle.gl_model.specs.Bindings.{current_entry, same_option}

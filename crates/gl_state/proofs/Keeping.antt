@@ -1,10 +1,9 @@
 -- Changes of a context that leave what it refers to.
-use Rattle.std.proofs.Common.{◌≡◌, ℕ, Bool, refl}
+use Rattle.std.proofs.Common.{ℕ, Bool, refl}
 use Rattle.gl_calls.specs.declared.reply.GlError.{GlError}
 use Rattle.gl_calls.specs.declared.reply.GlError.TheVariants.{NoError}
 use Rattle.gl_calls.specs.declared.words.StoreParameter.{StoreParameter}
 use Rattle.gl_calls.specs.declared.words.StoreParameter.TheVariants as parameters
-use Rattle.gl_model.specs.declared.state.Context.{Context}
 use Rattle.gl_model.specs.declared.state.ScissorBox.{ScissorBox}
 use Rattle.gl_model.specs.GroupEffect.{with_parameter}
 use Rattle.gl_model.specs.Legal.{with_gl_error}

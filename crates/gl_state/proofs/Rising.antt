@@ -1,5 +1,5 @@
 -- Tables whose keys rise, as they are looked up and changed.
-use Rattle.std.proofs.Common.{◌≢◌, inl, inr, ◌≡◌, ℕ, ◌+◌, ◌<◌, ◌==◌, Bool, true, false, cond, List, [], ◌∷◌, Option, Some, None, map, sym, ap, ◌∙◌, refl, arith}
+use Rattle.std.proofs.Common.{◌≢◌, inl, inr, ◌≡◌, ℕ, ◌<◌, ◌==◌, Bool, true, false, cond, [], ◌∷◌, Option, Some, None, map, sym, ap, ◌∙◌, refl, arith}
 use Rattle.std.specs.List.{find}
 use Rattle.std.proofs.lemmas.Bool.{cases_eq, cases_lt}
 use Rattle.std.proofs.lemmas.Grind.{common_steps}

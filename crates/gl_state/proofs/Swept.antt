@@ -1,8 +1,7 @@
 -- States in which something refers to each object stay so.
-use Rattle.std.proofs.Common.{◌≡◌, ℕ, ◌==◌, ◌||◌, Bool, true, false, cond, List, [], ◌∷◌, Option, Some, None, map, sym, ap, ◌∙◌, refl, arith}
-use Rattle.std.specs.List.{filter, list_any}
-use Rattle.std.proofs.lemmas.Grind.{common_steps}
-use Rattle.tables.specs.Table.{Entries, entry, with_entry, only, any_value}
+use Rattle.std.proofs.Common.{◌≡◌, ℕ, ◌==◌, ◌||◌, Bool, true, false, cond, List, [], ◌∷◌, Some, ap, ◌∙◌, refl}
+use Rattle.std.specs.List.{filter}
+use Rattle.tables.specs.Table.{Entries, only, any_value}
 use Rattle.gl_model.specs.declared.state.Attachment.{Attachment}
 use Rattle.gl_model.specs.declared.state.Attachment.TheVariants.{Texture, Renderbuffer}
 use Rattle.gl_model.specs.declared.state.Context.{Context}

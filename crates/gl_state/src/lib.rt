@@ -5,6 +5,8 @@ mod contexts;
 mod parameters;
 mod refusal;
 mod state;
+#[cfg(test)]
+mod tests;
 
 pub use parameters::{get_error, pixel_store, scissor_box, scissor_test};
 pub use refusal::refuse;

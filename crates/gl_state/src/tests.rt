@@ -1,0 +1,17 @@
+use crate::{SharedState, get_error, refuse};
+use formats::EglError;
+use gl_calls::{Call, Reply};
+use std::test::Fail;
+
+#[test]
+fn a_refusal_by_egl_sets_the_error_of_the_thread(rt: HostRuntime) -> Result<(), Fail> {
+    let mut state = SharedState::new(rt.alloc(), &[1, 2])?;
+    let call = Call::MakeCurrent { number: 5 };
+    let reply = Reply::EglFault(EglError::BadContext);
+    refuse(&mut state, 2, &call, &reply);
+    assert!(rt; matches!(state.group().threads.get(2), Some(EglError::BadContext)));
+    assert!(rt; matches!(state.group().threads.get(1), Some(EglError::Success)));
+    get_error(&mut state, 1);
+    assert_eq!(rt; state.group().contexts.len(), 0);
+    Ok(())
+}
