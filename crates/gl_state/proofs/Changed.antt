@@ -30,6 +30,7 @@ module _ (group : GroupState) (thread : ℕ) (change : Context → Context) (kep
   changed_is_kept None = kept
   changed_is_kept (Some n) = record {
     contexts = IsRising-changed (λ e. cond (e.0 == n) (change e.1) e.1) group.contexts kept.contexts;
+    buffers = kept.buffers;
     referred = swept-changed_context group n change keeps kept.referred;
   }
 

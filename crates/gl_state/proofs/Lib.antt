@@ -3,3 +3,5 @@ pub mod Rising
 pub mod Swept
 pub mod Changed
 pub mod Keeping
+pub mod BufferChanges
+pub mod SyncChanges

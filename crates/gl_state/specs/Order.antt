@@ -13,7 +13,8 @@ abbrev pub IsRising : {V : Type 0} → Entries V → Type 0
 IsRising [] = Unit {0}
 IsRising (e ∷ rest) = AreAbove e.0 rest × IsRising rest
 
--- What holds of each state of a share group: the numbers of its contexts rise, and something refers to each object.
+-- What holds of each state of a share group: the numbers of its contexts and buffers rise, and something refers to each object.
 pub record IsKept (group : GroupState) : Type 0 where
   pub contexts : IsRising group.contexts
+  pub buffers : IsRising group.buffers
   pub referred : swept group ≡ group
