@@ -1,6 +1,5 @@
 -- The effect of a call that changes the bound buffer.
-use Rattle.std.proofs.Common.{◌≡◌, ℕ, ◌==◌, ◌||◌, Bool, true, false, cond, List, [], ◌∷◌, Option, Some, None, map, sym, ap, ◌∙◌, refl, arith}
-use Rattle.std.specs.List.{filter}
+use Rattle.std.proofs.Common.{◌≡◌, ℕ, ◌==◌, ◌||◌, Bool, true, false, cond, [], ◌∷◌, Option, Some, None, map, sym, ap, ◌∙◌, refl}
 use Rattle.std.specs.Option.{option_map, option_and_then}
 use Rattle.gl_calls.specs.declared.call.Call.{Call}
 use Rattle.gl_calls.specs.declared.words.BufferTarget.{BufferTarget}
@@ -11,7 +10,7 @@ use Rattle.gl_model.specs.declared.state.Context.{Context}
 use Rattle.gl_model.specs.declared.state.GroupState.{GroupState}
 use Rattle.gl_model.specs.Bindings.{current_entry, buffer_binding}
 use Rattle.gl_model.specs.GroupEffect.{swept, group_effect, gl_change, gl_change_in, change_buffer, names_object, binds_buffer}
-use Rattle.gl_state.specs.Order.{IsKept, IsRising}
+use Rattle.gl_state.specs.Order.{IsKept}
 use Rattle.gl_state.specs.Changes.{bound_number, changed_buffer}
 use Rattle.gl_state.proofs.Rising.{changed_entry, IsRising-changed}
 

@@ -1,5 +1,5 @@
 -- The effect of a call on syncs.
-use Rattle.std.proofs.Common.{◌≡◌, ℕ, Bool, true, false, cond, Option, Some, None, is_some, sym, ap, ◌∙◌, refl}
+use Rattle.std.proofs.Common.{◌≡◌, ℕ, false, cond, Option, Some, None, is_some, sym, ap, ◌∙◌, refl}
 use Rattle.std.specs.Option.{option_map}
 use Rattle.gl_calls.specs.declared.call.Call.{Call}
 use Rattle.gl_calls.specs.Egl.{is_egl_call}

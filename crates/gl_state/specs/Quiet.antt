@@ -1,4 +1,4 @@
--- The calls of OpenGL ES that leave names, bindings and attachments.
+-- Calls that leave names, bindings and attachments.
 use Rattle.std.specs.Prelude.{Bool, true, false}
 use Rattle.gl_calls.specs.declared.call.Call.{Call}
 use Rattle.gl_calls.specs.declared.call.Call.TheVariants as call
@@ -25,7 +25,7 @@ is_quiet call.Flush = true
 is_quiet call.Finish = true
 is_quiet _ = false
 
--- it sets a parameter of the context, or the store or the map of the bound buffer, or destroys a sync
+-- it sets a parameter of the context, or the store or the map of the bound buffer, or destroys a sync, or sets an EGL error alone
 abbrev pub sets_fact : Call → Bool
 sets_fact call.GetError = true
 sets_fact (call.BufferData target size usage payload) = true
@@ -35,4 +35,7 @@ sets_fact (call.ScissorTest on) = true
 sets_fact (call.ScissorBox x y width height) = true
 sets_fact (call.PixelStore parameter value) = true
 sets_fact (call.DeleteSync number) = true
+sets_fact call.EglGetError = true
+sets_fact (call.EglClientWaitSync number flush timeout) = true
+sets_fact (call.DestroySync number) = true
 sets_fact _ = false

@@ -16,4 +16,4 @@ pub use buffers::{buffer_data, map_buffer_range, unmap_buffer};
 pub use parameters::{get_error, pixel_store, scissor_box, scissor_test};
 pub use refusal::refuse;
 pub use state::SharedState;
-pub use syncs::{delete_sync, fence_sync};
+pub use syncs::{create_sync, delete_sync, destroy_sync, fence_sync, succeed};

@@ -1,11 +1,12 @@
 // The calls that make and destroy syncs.
-ghost use Rattle.std.specs.Prelude.{◌≡◌, ℕ, OnOk, OnErr, is_some, if◌then◌else◌};
+ghost use Rattle.std.specs.Prelude.{◌≡◌, ℕ, Bool, IsTrue, OnOk, OnErr, is_some, if◌then◌else◌};
 ghost use Rattle.gl_calls.specs.declared.words.FenceCondition.{FenceCondition};
-ghost use Rattle.tables.specs.Table.{with_entry, without};
+ghost use Rattle.tables.specs.Table.{has, with_entry, without};
 ghost use Rattle.gl_model.specs.Bindings.{current_context};
 ghost use Rattle.gl_model.specs.GroupEffect.{group_effect};
 
 use crate::state::SharedState;
+use formats::EglError;
 use gl_calls::Call;
 use gl_model::GroupState;
 use std::alloc::AllocError;
@@ -54,4 +55,33 @@ pub fn delete_sync(state: &mut SharedState, thread: u32, number: u16)
 {
     let here = has_context(&state.group, thread);
     take_out(&mut state.group.syncs, here, number);
+}
+
+/// Makes an EGL sync (EGL 1.5, Creating Sync Objects). For want of memory nothing changes.
+pub fn create_sync(state: &mut SharedState, thread: u32, number: u16) -> Result<(), AllocError>
+    requires { IsTrue (has thread state.old.threads) }
+    ensures ok { OnOk result (state.new ≡ group_effect state.old thread (Call.CreateSync number)) }
+    ensures err { OnErr result (state.new ≡ state.old) }
+{
+    state.group.egl_syncs.insert(u32::from(number), ())?;
+    state.group.threads.replace(thread, EglError::Success);
+    Ok(())
+}
+
+/// Destroys an EGL sync (EGL 1.5, Destroying Sync Objects).
+pub fn destroy_sync(state: &mut SharedState, thread: u32, number: u16)
+    requires { IsTrue (has thread state.old.threads) }
+    ensures { state.new ≡ group_effect state.old thread (Call.DestroySync number) }
+{
+    state.group.egl_syncs.remove(u32::from(number));
+    state.group.threads.replace(thread, EglError::Success);
+}
+
+/// Sets the EGL error of a thread to success, as a call of EGL does that changes nothing else (EGL 1.5, Errors).
+pub fn succeed(state: &mut SharedState, thread: u32)
+    requires { IsTrue (has thread state.old.threads) }
+    ensures read { state.new ≡ group_effect state.old thread Call.EglGetError }
+    ensures waited { (number : ℕ) (flush : Bool) (timeout : ℕ) → state.new ≡ group_effect state.old thread (Call.EglClientWaitSync number flush timeout) }
+{
+    state.group.threads.replace(thread, EglError::Success);
 }

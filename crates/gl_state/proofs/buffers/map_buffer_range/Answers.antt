@@ -1,6 +1,6 @@
 use Rattle.std.proofs.Math.Facts.{to_z-of_z}
 use Rattle.std.proofs.Common.{w64}
-use Rattle.std.proofs.Common.{refl, None, Some}
+use Rattle.std.proofs.Common.{refl, Some}
 use Rattle.gl_calls.specs.declared.call.Call.TheVariants as call
 use Rattle.gl_model.specs.declared.objects.BufferFacts.{BufferFacts}
 use Rattle.gl_state.proofs.BufferChanges.{IsKept-changed_buffer, changed_buffer-effect}
