@@ -1,0 +1,35 @@
+-- Changes of the context that is current on a thread.
+use Rattle.std.specs.Prelude.{ℕ, ◌==◌, Option, map, if◌then◌else◌}
+use Rattle.std.specs.Option.{option_and_then, option_map, option_map_or}
+use Rattle.tables.specs.Table.{Entries, entry, with_entry}
+use Rattle.gl_calls.specs.declared.words.BufferTarget.{BufferTarget}
+use Rattle.gl_model.specs.declared.objects.BufferFacts.{BufferFacts}
+use Rattle.gl_model.specs.declared.state.Context.{Context}
+use Rattle.gl_model.specs.declared.state.GroupState.{GroupState}
+use Rattle.gl_model.specs.Bindings.{current_entry, current_context, buffer_binding}
+
+-- one context changed
+abbrev pub changed_context : ℕ → (Context → Context) → Entries Context → Entries Context
+changed_context number change contexts = map (λ e. (e.0, if e.0 == number then change e.1 else e.1)) contexts
+
+-- the context of a number changed, if there is a number
+abbrev pub changed_if : Option ℕ → (Context → Context) → Entries Context → Entries Context
+changed_if number change contexts = option_map_or (λ n. changed_context n change contexts) number contexts
+
+-- the number of the context that is current on a thread
+abbrev pub current_number : GroupState → ℕ → Option ℕ
+current_number group thread = option_map (λ e. e.0) (current_entry group thread)
+
+-- the group after the context that is current on a thread was changed
+abbrev pub after_change : GroupState → ℕ → (Context → Context) → GroupState
+after_change group thread change =
+    record group { contexts = changed_if (current_number group thread) change group.contexts }
+
+-- the buffer that is bound to a target on a thread, by its number
+abbrev pub bound_number : GroupState → ℕ → BufferTarget → Option ℕ
+bound_number group thread target = option_and_then (λ c. buffer_binding c target) (current_context group thread)
+
+-- the buffer of a number changed, if there is a number and it has a buffer
+abbrev pub changed_buffer : Option ℕ → (BufferFacts → BufferFacts) → Entries BufferFacts → Entries BufferFacts
+changed_buffer number change buffers =
+    option_map_or (λ b. option_map_or (λ f. with_entry b (change f) buffers) (entry b buffers) buffers) number buffers

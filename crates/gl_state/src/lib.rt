@@ -1,0 +1,19 @@
+//! The effect of a call on the state of a share group, all but what its objects hold.
+#![tactic(auto)]
+
+mod apply;
+mod buffers;
+mod contexts;
+mod parameters;
+mod refusal;
+mod state;
+mod syncs;
+#[cfg(test)]
+mod tests;
+
+pub use apply::apply_plain;
+pub use buffers::{buffer_data, map_buffer_range, unmap_buffer};
+pub use parameters::{get_error, pixel_store, scissor_box, scissor_test};
+pub use refusal::refuse;
+pub use state::SharedState;
+pub use syncs::{create_sync, delete_sync, destroy_sync, fence_sync, succeed};

@@ -1,0 +1,40 @@
+ghost use Rattle.std.specs.Prelude.{◌≡◌, IfOk};
+ghost use Rattle.gl_model.specs.GroupState.{opening_group};
+
+use gl_model::GroupState;
+use std::alloc::{AllocError, Global};
+use std::marker::Model;
+
+/// The state of a share group, all but what its objects hold.
+#[derive(Drop)]
+pub struct SharedState {
+    pub(crate) group: GroupState,
+}
+
+impl Model for SharedState {
+    ghost use Rattle.gl_model.specs.declared.state.GroupState.{GroupState as Group};
+    ghost use Rattle.gl_state.specs.Order.{IsKept};
+
+    ghost Value = { Group };
+
+    ghost view = { λ s. s.group };
+
+    ghost invariant = { λ s. IsKept s.group };
+}
+
+impl SharedState {
+    /// The opening state of a share group: its threads, with nothing in it.
+    pub fn new(alloc: Global, threads: &[u32]) -> Result<SharedState, AllocError>
+        ensures { IfOk result (λ state. state ≡ opening_group threads.now) }
+    {
+        let group = GroupState::new(alloc, threads)?;
+        Ok(SharedState { group })
+    }
+
+    /// The state, for `decide` and other calls that only read it.
+    pub fn group(&self) -> &GroupState
+        ensures { result.now ≡ self.now }
+    {
+        &self.group
+    }
+}
