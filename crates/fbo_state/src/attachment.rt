@@ -16,6 +16,10 @@ pub enum Attachment {
 
 /// The blank of an unused place.
 impl Default for Attachment {
+    ghost use Rattle.fbo_state.specs.declared.attachment.Attachment.TheVariants.{Empty};
+
+    ghost is_default = { λ a. a ≡ Empty };
+
     fn default() -> Attachment {
         Attachment::Empty
     }
