@@ -3,3 +3,4 @@ pub mod Link
 pub mod Needs
 pub mod Answers
 pub mod History
+pub mod Run

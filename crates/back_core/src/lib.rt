@@ -8,7 +8,9 @@
 mod back_event;
 mod back_link;
 mod laws;
+mod run_laws;
 
 pub use back_event::BackEvent;
 pub use back_link::BackLink;
 pub use laws::{uses_are_low, what_a_group_sees};
+pub use run_laws::{runs_are_sound, runs_go_on, runs_meet_the_device};
