@@ -1,2 +1,3 @@
 mod Sees
+mod Snoc
 mod Uses

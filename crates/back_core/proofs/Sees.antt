@@ -56,7 +56,7 @@ if_own_is l group new e = cond-true (group == l.group) new l (eq-eqb group l.gro
 if_own_not : (l : Link) (group : ℕ) (new : Link) → group ≢ l.group → if_own l group new ≡ l
 if_own_not l group new e = cond-false (group == l.group) new l (ne_eqb group l.group e)
 
-queue_then : (h : List BackEvent) (e : BackEvent) → queue_history (h ++ e ∷ []) ≡ queue_history h ++ queue_event e
+pub queue_then : (h : List BackEvent) (e : BackEvent) → queue_history (h ++ e ∷ []) ≡ queue_history h ++ queue_event e
 queue_then h e = flat_map-append queue_event h (e ∷ []) ∙ ap (λ l. queue_history h ++ l) (append-nil (queue_event e))
 
 queue_same : (h : List BackEvent) (e : BackEvent) → queue_event e ≡ [] → queue_history (h ++ e ∷ []) ≡ queue_history h
