@@ -1,4 +1,6 @@
 mod Sees
 mod Uses
 mod Runs
+mod Lists
 mod Parts
+mod Numbered
