@@ -1,5 +1,5 @@
 mod Sees
-mod Snoc
+mod Covered
 mod Uses
 mod Runs
 mod Lists
