@@ -5,3 +5,9 @@ mod Runs
 mod Lists
 mod Parts
 mod Numbered
+mod Each
+mod Replacing
+mod Grouped
+mod Adding
+mod Made
+mod Plans
