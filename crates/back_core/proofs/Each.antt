@@ -1,5 +1,5 @@
 -- What holds of each element of a list, by its place.
-use Rattle.std.proofs.Common.{◌≡◌, ℕ, zero, suc, ◌+◌, ◌<◌, Bool, true, false, cond, List, [], ◌∷◌, ◌++◌, length, drop, get_or, refl, sym, ap, ◌∙◌, subst, inl, inr, arith}
+use Rattle.std.proofs.Common.{◌≡◌, ℕ, zero, suc, ◌+◌, ◌<◌, Bool, true, false, cond, List, [], ◌∷◌, ◌++◌, length, map, take, drop, refl, sym, ap, ◌∙◌, subst, inl, inr, arith}
 use Rattle.std.specs.Prelude.{◌⊎◌, All, Some, slice_get}
 use Rattle.std.specs.List.{filter, flat_map}
 use Rattle.std.proofs.lemmas.List.{take-append-drop}
@@ -42,7 +42,7 @@ pub Each-weaker : {X : Type 0} (P Q : X → Type 0) (xs : List X) → ((x : X) �
 Each-weaker P Q xs weaker each k x at = weaker x (each k x at)
 
 pub Each-drop : {X : Type 0} (P : X → Type 0) (n : ℕ) (xs : List X) → Each P xs → Each P (drop n xs)
-Each-drop P n xs each = Each-right P (Rattle.std.proofs.Common.take n xs) (drop n xs) (subst (Each P) (sym (take-append-drop n xs)) each)
+Each-drop P n xs each = Each-right P (take n xs) (drop n xs) (subst (Each P) (sym (take-append-drop n xs)) each)
 
 pub Each-filter : {X : Type 0} (P : X → Type 0) (p : X → Bool) (xs : List X) → Each P xs → Each P (filter p xs)
 Each-filter P p [] each = Each-nil P
@@ -70,3 +70,7 @@ drop_from zero [] x at = absurd (none-some x at)
 drop_from zero (y ∷ xs) x at = ap (λ z. z ∷ xs) (same_Some y x at)
 drop_from (suc n) [] x at = absurd (none-some x at)
 drop_from (suc n) (y ∷ xs) x at = let next : suc (n + 1) ≡ suc n + 1 = omega arith in drop_from n xs x at ∙ ap (λ m. x ∷ drop m (y ∷ xs)) next
+
+pub Each-map : {X Y : Type 0} (P : Y → Type 0) (f : X → Y) (xs : List X) → Each (λ x. P (f x)) xs → Each P (map f xs)
+Each-map P f [] each = Each-nil P
+Each-map P f (x ∷ xs) each = Each-cons P (f x) (map f xs) (each 0 x refl) (Each-map P f xs (λ k y at. each (suc k) y at))

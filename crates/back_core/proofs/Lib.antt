@@ -11,3 +11,5 @@ mod Grouped
 mod Adding
 mod Made
 mod Plans
+mod OwnLogs
+mod GroupLogs
