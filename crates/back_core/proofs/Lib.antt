@@ -13,3 +13,4 @@ mod Made
 mod Plans
 mod OwnLogs
 mod GroupLogs
+mod Planned
