@@ -14,3 +14,6 @@ mod Plans
 mod OwnLogs
 mod GroupLogs
 mod Planned
+mod Layouts
+mod Visible
+mod Agreeing

@@ -88,7 +88,7 @@ flushed_more h b fed =
     let count : accepted (h ++ Enqueued b ∷ []) ≡ accepted h = omega (arith, accepted_then h (Enqueued b)) in
     ap (λ n. drop n (pushed (h ++ Enqueued b ∷ []))) count ∙ ap (drop (accepted h)) (pushed_then h (Enqueued b)) ∙ drop-append-le (accepted h) (pushed h) (b ∷ []) fed.within
 
-flushed_less : (h : List BackEvent) (b : Batch) → queue.first_flushed (queue_history h) ≡ Some b → flushed h ≡ b ∷ flushed (h ++ Submitted ∷ [])
+pub flushed_less : (h : List BackEvent) (b : Batch) → queue.first_flushed (queue_history h) ≡ Some b → flushed h ≡ b ∷ flushed (h ++ Submitted ∷ [])
 flushed_less h b first =
     let count : accepted h + 1 ≡ accepted (h ++ Submitted ∷ []) = omega (arith, accepted_then h Submitted) in
     drop_from (accepted h) (pushed h) b first
