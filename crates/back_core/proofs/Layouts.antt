@@ -28,9 +28,9 @@ module _ (alone : LeavesAlone) where
       let one : IsOfOneQueue batch = (is_fed h run).one_queue (accepted h) batch first in
       let sound : IsSound (device_log h ++ commands 0 (batch.nodes ++ rest)) = subst (λ l. IsSound (device_log h ++ commands 0 (nodes_in l))) (flushed_less h batch first) (plan_sound alone h run) in
       let there : slice_get (device_log h ++ commands 0 (batch.nodes ++ rest)) (length (device_log h) + k) ≡ Some (Command 0 n) =
-          get_right (device_log h) (commands 0 (batch.nodes ++ rest)) k ∙ slice_get-map (Command 0) (batch.nodes ++ rest) k ∙ ap (option_map (Command 0)) (get_left batch.nodes rest k n at) in
+      get_right (device_log h) (commands 0 (batch.nodes ++ rest)) k ∙ slice_get-map (Command 0) (batch.nodes ++ rest) k ∙ ap (option_map (Command 0)) (get_left batch.nodes rest k n at) in
       let before : take (length (device_log h) + k) (device_log h ++ commands 0 (batch.nodes ++ rest)) ≡ device_log h ++ commands 0 (take k batch.nodes) =
-          take-append-add (device_log h) (commands 0 (batch.nodes ++ rest)) k
-          ∙ ap (λ l. device_log h ++ l) (take-map (Command 0) k (batch.nodes ++ rest) ∙ ap (commands 0) (take-append-le k batch.nodes rest (omega (arith, slice_get_within batch.nodes k n at)))) in
+      take-append-add (device_log h) (commands 0 (batch.nodes ++ rest)) k
+      ∙ ap (λ l. device_log h ++ l) (take-map (Command 0) k (batch.nodes ++ rest) ∙ ap (commands 0) (take-append-le k batch.nodes rest (omega (arith, slice_get_within batch.nodes k n at)))) in
       subst (λ q. FindsLayouts (device_log h ++ map (Command q) (take k batch.nodes)) n) (sym one.queue)
       (subst (λ l. FindsLayouts l n) before (sound.laid_out (length (device_log h) + k) 0 n there))

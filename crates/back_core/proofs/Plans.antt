@@ -149,7 +149,7 @@ plan-submitted h fed may = go (some_at (pushed h) (accepted h) may)
     go first =
         let b : Batch = first.0 in
         let items : flat_map entry_items (submission (queue.first_flushed (queue_history h))) ≡ commands 0 b.nodes =
-            ap (λ o. flat_map entry_items (submission o)) first.1 ∙ append-nil (entry_items (logged.Submitted b)) ∙ batch_items b (fed.one_queue (accepted h) b first.1) in
+        ap (λ o. flat_map entry_items (submission o)) first.1 ∙ append-nil (entry_items (logged.Submitted b)) ∙ batch_items b (fed.one_queue (accepted h) b first.1) in
         ap (λ l. l ++ commands 0 (nodes_in (flushed (h ++ Submitted ∷ [])))) (device_log-then h Submitted ∙ ap (λ l. device_log h ++ l) items)
         ∙ append_assoc (device_log h) (commands 0 b.nodes) (commands 0 (nodes_in (flushed (h ++ Submitted ∷ []))))
         ∙ ap (λ l. device_log h ++ l) (sym (map-append (Command 0) b.nodes (nodes_in (flushed (h ++ Submitted ∷ [])))))
