@@ -1,12 +1,13 @@
 -- The bytes of a buffer that the host may read agree with what the list of its group evaluates to.
-use Rattle.std.proofs.Common.{◌≡◌, ℕ, ◌+◌, ◌<◌, ◌≤◌, true, false, List, [], ◌∷◌, ◌++◌, length, get_or, refl, sym, ap, ◌∙◌, subst, arith}
+use Rattle.std.proofs.Common.{◌≡◌, ℕ, ◌+◌, ◌<◌, ◌≤◌, true, false, List, length, refl, sym, ap, ◌∙◌, subst, arith}
 use Rattle.std.specs.Prelude.{Option, Some, None, IsSome, slice_get, slice_index, unwrap_or}
 use Rattle.std.proofs.lemmas.List.{get_or_default}
-use Rattle.cells.specs.Contents.{UNDEFINED, cells, cell_at, part, Agrees, AgreesAt}
+use Rattle.cells.specs.Contents.{UNDEFINED, cells, part, Agrees, AgreesAt}
 use Rattle.vk_types.specs.declared.handles.Kind.{Kind}
 use Rattle.vk_types.specs.declared.handles.Kind.TheVariants.{Buffer, Image}
 use Rattle.vk_types.specs.declared.ops.Node.{Node}
-use Rattle.vk_model.specs.Log.{Item, Command, commands, touches_object}
+use Rattle.vk_model.specs.Fitting.{size_of}
+use Rattle.vk_model.specs.Log.{Command, commands, touches_object}
 use Rattle.vk_model.specs.Meaning.{eval, touches_id}
 use Rattle.vk_model.specs.Queues.{group_list}
 use Rattle.vk_model.proofs.Device.{touches_id_of}
@@ -41,7 +42,7 @@ same_kinds h run g k q n id at t = go ((own_part h g).kinds id) refl (own_made h
     go (Some kind) is some = (made h run g id kind is).of_kind ∙ sym (ap (λ o. unwrap_or o (Buffer 0)) is)
 
 -- the bytes of a buffer that reaches to a place
-within : (o : Option Kind) (end : ℕ) (bytes : List ℕ) → ReachesTo o end → ((kind : Kind) → o ≡ Some kind → length bytes ≡ Rattle.vk_model.specs.Fitting.size_of kind) → (end ≤ length bytes) × IsSome o
+within : (o : Option Kind) (end : ℕ) (bytes : List ℕ) → ReachesTo o end → ((kind : Kind) → o ≡ Some kind → length bytes ≡ size_of kind) → (end ≤ length bytes) × IsSome o
 within None end bytes reaches sizes = absurd reaches
 within (Some (Buffer size)) end bytes reaches sizes = (omega (arith, reaches, sizes (Buffer size) refl), refl)
 within (Some (Image format width height)) end bytes reaches sizes = absurd reaches
@@ -72,12 +73,12 @@ module _ (alone : LeavesAlone) where
       there = within (kind_of (journal_of h) id) (at + size) (bytes_of id) (inside h g id at size run may) (λ kind is. order.sizes id kind is)
 
       long : length (part (bytes_of id) at size) ≡ size
-      long = length-part (bytes_of id) at size (there).0
+      long = length-part (bytes_of id) at size there.0
 
       each : (i : ℕ) → i < size → AgreesAt (slice_index (part (bytes_of id) at size) i) (contents_of (link_of h g) id (at + i))
       each i lt defined =
           let same : eval (made_with (journal_of h)) (device_log h) id (at + i) ≡ contents_of (link_of h g) id (at + i) = ap (λ (c : ℕ → ℕ). c (at + i)) (same_contents h g id at size run may) in
           get_or_default (part (bytes_of id) at size) i 0 UNDEFINED (subst (λ n. i < n) (sym long) lt)
           ∙ part-at (bytes_of id) at size i lt
-          ∙ reads_in_order (journal_of h) bytes_of id order (log_sound alone h run) (alone h g id at size run may).settled (there).1 (at + i) (subst (λ c. c < 256) (sym same) defined)
+          ∙ reads_in_order (journal_of h) bytes_of id order (log_sound alone h run) (alone h g id at size run may).settled there.1 (at + i) (subst (λ c. c < 256) (sym same) defined)
           ∙ same

@@ -1,5 +1,5 @@
 -- The log is sound, and the batch that is accepted next finds the layouts that it names.
-use Rattle.std.proofs.Common.{◌≡◌, ℕ, ◌+◌, ◌≤◌, List, [], ◌∷◌, ◌++◌, length, map, take, sym, ap, ◌∙◌, subst, arith}
+use Rattle.std.proofs.Common.{◌≡◌, ◌+◌, List, [], ◌∷◌, ◌++◌, length, map, take, sym, ap, ◌∙◌, subst, arith}
 use Rattle.std.specs.Prelude.{Some, slice_get, option_map}
 use Rattle.std.proofs.Math.Seq.{take-append-add}
 use Rattle.std.proofs.lemmas.List.{take-map, take-append-le}
@@ -15,7 +15,7 @@ use Rattle.back_core.specs.declared.back_event.BackEvent.TheVariants.{Submitted}
 use Rattle.back_core.specs.History.{queue_history}
 use Rattle.back_core.specs.Run.{IsRun}
 use Rattle.back_core.proofs.Lists.{get_left, get_right}
-use Rattle.back_core.proofs.Plans.{accepted, flushed, flushed_less, nodes_in, is_fed, device_log, plan}
+use Rattle.back_core.proofs.Plans.{accepted, flushed, flushed_less, nodes_in, is_fed, device_log}
 use Rattle.back_core.proofs.Planned.{LeavesAlone, plan_sound}
 
 module _ (alone : LeavesAlone) where

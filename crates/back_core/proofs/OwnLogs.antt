@@ -1,10 +1,9 @@
 -- The log of a group's own list is sound, and touches only what the group made.
-use Rattle.std.proofs.Common.{◌≡◌, ℕ, ◌==◌, Bool, true, false, cond, eqb, List, [], ◌∷◌, ◌++◌, refl, sym, ap, ◌∙◌, subst, inl, inr, arith}
-use Rattle.std.specs.Prelude.{◌/◌, ◌⊎◌, ◌||◌, Option, Some, None, IsSome, slice_get}
+use Rattle.std.proofs.Common.{◌≡◌, ℕ, ◌==◌, Bool, true, false, cond, eqb, List, [], ◌∷◌, ◌++◌, refl, sym, ◌∙◌, subst, inl, inr}
+use Rattle.std.specs.Prelude.{◌/◌, Option, Some, None, IsSome}
 use Rattle.std.proofs.lemmas.Bool.{eqb-true, or_cases, false≢true}
 use Rattle.std.proofs.lemmas.List.{append-nil}
 use Rattle.std.proofs.lemmas.Option.{none-some}
-use Rattle.vk_types.specs.declared.handles.HandleId.{HandleId}
 use Rattle.vk_types.specs.declared.handles.Kind.{Kind}
 use Rattle.vk_types.specs.declared.ops.Node.{Node}
 use Rattle.vk_types.specs.declared.batches.Batch.{Batch}
@@ -16,13 +15,12 @@ use Rattle.vk_model.proofs.Groups.{touches_id_is}
 use Rattle.vk_model.proofs.Growth.{sound_next}
 use Rattle.vk_device.proofs.Fitting.{fits_lives, touched_lives}
 use Rattle.back_core.specs.declared.back_event.BackEvent.{BackEvent}
-use Rattle.back_core.specs.declared.back_event.BackEvent.TheVariants.{Wrote, Enqueued}
 use Rattle.back_core.specs.History.{own_part, link_of}
 use Rattle.back_core.specs.Needs.{HostMay, MayEnqueue}
 use Rattle.back_core.specs.Run.{MayHappen, IsRun}
 use Rattle.back_core.proofs.Runs.{of_each_run}
 use Rattle.back_core.proofs.Each.{Each, Each-nil, Each-one, Each-append, Each-map, Each-weaker, Each-from_All}
-use Rattle.back_core.proofs.Adding.{IsOther, by_sort, own_log, own_items, own_items-other, own_log-then, made_still}
+use Rattle.back_core.proofs.Adding.{by_sort, own_log, own_items, own_items-other, own_log-then, made_still}
 
 if_own_items : (P : List Item → Type 0) (b : Bool) (xs : List Item) → (b ≡ true → P xs) → P [] → P (cond b xs [])
 if_own_items P true xs own other = own refl

@@ -1,21 +1,19 @@
 -- The plan has for each group a list that can replace the log of its own list, so it is sound.
-use Rattle.std.proofs.Common.{◌≡◌, ℕ, ◌+◌, ◌<◌, ◌==◌, Bool, true, false, cond, List, [], ◌∷◌, ◌++◌, length, refl, sym, ap, ◌∙◌, subst, arith}
-use Rattle.std.specs.Prelude.{◌/◌, Some, slice_get, IsSome}
-use Rattle.std.specs.List.{list_any, flat_map}
+use Rattle.std.proofs.Common.{◌≡◌, ℕ, ◌+◌, ◌<◌, ◌==◌, Bool, false, cond, List, [], ◌∷◌, ◌++◌, length, refl, sym, ap, ◌∙◌, subst, arith}
+use Rattle.std.specs.Prelude.{◌/◌}
+use Rattle.std.specs.List.{list_any}
 use Rattle.std.proofs.lemmas.Bool.{false_from_ne_true, both_ways}
 use Rattle.std.proofs.lemmas.List.{append-nil}
 use Rattle.std.proofs.lemmas.List.Folds.{list_any_at}
 use Rattle.std.proofs.lemmas.Option.{slice_get_within, get_or_from_slice_get}
 use Rattle.vk_types.specs.declared.handles.HandleId.{HandleId}
-use Rattle.vk_types.specs.declared.ops.Node.{Node}
 use Rattle.vk_types.specs.declared.batches.Batch.{Batch}
-use Rattle.vk_model.specs.Log.{Item, HostWrite, commands, touches_object, IsSound}
+use Rattle.vk_model.specs.Log.{HostWrite, commands, touches_object, IsSound}
 use Rattle.vk_model.specs.Queues.{group_list}
 use Rattle.vk_model.proofs.Handover.{sound_from_groups}
 use Rattle.vk_model.proofs.Lists.{one_queue_handed_over}
 use Rattle.back_core.specs.declared.back_event.BackEvent.{BackEvent}
 use Rattle.back_core.specs.declared.back_event.BackEvent.TheVariants.{Wrote, Enqueued}
-use Rattle.back_core.specs.Own.{batch_touches}
 use Rattle.back_core.specs.History.{own_part, link_of}
 use Rattle.back_core.specs.Needs.{HostMay}
 use Rattle.back_core.specs.Run.{MayHappen, IsRun, IsLeftAlone}
@@ -27,7 +25,6 @@ use Rattle.back_core.proofs.Adding.{IsOther, by_sort, own_log, own_items, own_it
 use Rattle.back_core.proofs.Made.{maker, IsMaker, maker_is_maker}
 use Rattle.back_core.proofs.Plans.{accepted, flushed, nodes_in, is_fed, device_log, plan, plan-nil, plan-other, plan-enqueued, plan-wrote}
 use Rattle.back_core.proofs.OwnLogs.{NodeMade, host_made, batch_made, own_sound}
-use Rattle.back_core.proofs.Replacing.{CanReplace}
 use Rattle.back_core.proofs.GroupLogs.{IsGrouped, one_queue, grouped-same, grouped-nil, grouped-batch, grouped-write}
 
 -- What was flushed

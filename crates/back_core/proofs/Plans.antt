@@ -1,6 +1,6 @@
 -- The plan: what the device accepted, and behind it the nodes that it is to accept.
-use Rattle.std.proofs.Common.{◌≡◌, ℕ, zero, suc, ◌+◌, ◌≤◌, ◌<◌, cond, List, [], ◌∷◌, ◌++◌, length, map, drop, take, refl, sym, ap, ◌∙◌, subst, arith, append_assoc, length-append}
-use Rattle.std.specs.Prelude.{Option, Some, None, slice_get}
+use Rattle.std.proofs.Common.{◌≡◌, ℕ, ◌+◌, ◌≤◌, cond, List, [], ◌∷◌, ◌++◌, length, map, drop, take, refl, sym, ap, ◌∙◌, subst, arith, append_assoc, length-append}
+use Rattle.std.specs.Prelude.{Some}
 use Rattle.std.specs.List.{flat_map}
 use Rattle.std.proofs.lemmas.List.{append-nil, map-append, drop-append-le}
 use Rattle.std.proofs.lemmas.List.Concat.{flat_map-append}
@@ -23,7 +23,7 @@ use Rattle.back_core.proofs.Sees.{queue_then}
 use Rattle.back_core.proofs.Runs.{journal_nil, journal_then, of_each_run}
 use Rattle.back_core.proofs.Lists.{some_at}
 use Rattle.back_core.proofs.Parts.{pushed, pushed_in, pushed_then}
-use Rattle.back_core.proofs.Each.{Each, Each-nil, Each-one, Each-append, Each-drop, drop_from}
+use Rattle.back_core.proofs.Each.{Each, Each-nil, Each-one, Each-append, drop_from}
 use Rattle.back_core.proofs.Adding.{IsOther}
 
 -- The batches

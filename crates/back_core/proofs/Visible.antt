@@ -1,8 +1,8 @@
 -- What is readable in a group's own list is visible in the device's log.
-use Rattle.std.proofs.Common.{◌≡◌, ℕ, ◌+◌, ◌<◌, Bool, true, false, cond, eqb, List, [], ◌∷◌, ◌++◌, refl, sym, ap, ◌∙◌, subst, arith}
+use Rattle.std.proofs.Common.{◌≡◌, ℕ, ◌+◌, ◌<◌, Bool, true, false, cond, eqb, List, ◌++◌, refl, sym, ap, ◌∙◌, subst}
 use Rattle.std.specs.Prelude.{◌&&◌, ◌||◌, nat_lt, min, max, not, is_some, Option, Some, None, slice_get}
 use Rattle.std.specs.List.{list_any}
-use Rattle.std.proofs.lemmas.Bool.{and_parts, and_from, or_left, cases_Bool, cond-true, false≢true}
+use Rattle.std.proofs.lemmas.Bool.{and_parts, and_from, or_left, cond-true, false≢true}
 use Rattle.std.proofs.lemmas.List.{append-nil}
 use Rattle.std.proofs.lemmas.List.Elements.{filter_map-append}
 use Rattle.std.proofs.lemmas.Option.{none-some, same_Some}
@@ -15,7 +15,7 @@ use Rattle.vk_model.specs.Queues.{group_list}
 use Rattle.vk_model.proofs.Clashes.{any_weaker, barrier_touches_object}
 use Rattle.vk_model.proofs.Groups.{touches_id_is}
 use Rattle.vk_model.proofs.Kept.{place_of, index_of, From, from_kept, place_order, Kept, kept_at, order_by_place}
-use Rattle.vk_device.specs.Order.{writes_into, IsHandedOver, IsVisible}
+use Rattle.vk_device.specs.Order.{writes_into, IsVisible}
 use Rattle.back_core.specs.declared.back_event.BackEvent.{BackEvent}
 use Rattle.back_core.specs.Own.{writes_in, HasHostBarrier, IsReadable}
 use Rattle.back_core.specs.History.{link_of}
@@ -46,7 +46,7 @@ no_barrier (Some b) e = absurd (false≢true e)
 
 -- a node that writes into the range is no barrier, and writes a place of it
 writes_both : (n : Node) (id at size : ℕ) → writes_into n id at (at + size) ≡ true → (barrier_of n ≡ None) × (writes_in n id at size ≡ true)
-writes_both n id at size e = (no_barrier (barrier_of n) (parts).0, any_weaker written (λ r. clash r read) clashes (node_ranges n) (parts).1)
+writes_both n id at size e = (no_barrier (barrier_of n) parts.0, any_weaker written (λ r. clash r read) clashes (node_ranges n) parts.1)
   where
     read : Range
     read = record { id = id; start = at; end = at + size; written = false }
