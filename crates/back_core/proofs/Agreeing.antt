@@ -26,7 +26,7 @@ use Rattle.back_core.specs.Needs.{HostMay}
 use Rattle.back_core.specs.Run.{journal_of, IsRun}
 use Rattle.back_core.proofs.Each.{Each, Each-map, Each-weaker}
 use Rattle.back_core.proofs.Adding.{own_log}
-use Rattle.back_core.proofs.Made.{made, maker, maker_is_maker}
+use Rattle.back_core.proofs.Makers.{made, maker, maker_is_maker}
 use Rattle.back_core.proofs.Plans.{flushed, nodes_in, device_log, plan}
 use Rattle.back_core.proofs.OwnLogs.{host_made, own_made}
 use Rattle.back_core.proofs.GroupLogs.{has_groups}

@@ -9,7 +9,7 @@ mod Each
 mod Replacing
 mod Grouped
 mod Adding
-mod Made
+mod Makers
 mod Plans
 mod OwnLogs
 mod GroupLogs

@@ -22,7 +22,7 @@ use Rattle.back_core.proofs.Parts.{pushed}
 use Rattle.back_core.proofs.Each.{Each, Each-weaker, Each-flat_map, get_drop}
 use Rattle.back_core.proofs.Grouped.{BelongsTo}
 use Rattle.back_core.proofs.Adding.{IsOther, by_sort, own_log, own_items, own_items-other, own_log-then, made_still}
-use Rattle.back_core.proofs.Made.{maker, IsMaker, maker_is_maker}
+use Rattle.back_core.proofs.Makers.{maker, IsMaker, maker_is_maker}
 use Rattle.back_core.proofs.Plans.{accepted, flushed, nodes_in, is_fed, device_log, plan, plan-nil, plan-other, plan-enqueued, plan-wrote}
 use Rattle.back_core.proofs.OwnLogs.{NodeMade, host_made, batch_made, own_sound}
 use Rattle.back_core.proofs.GroupLogs.{IsGrouped, one_queue, grouped-same, grouped-nil, grouped-batch, grouped-write}

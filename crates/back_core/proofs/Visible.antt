@@ -24,7 +24,7 @@ use Rattle.back_core.specs.Run.{IsRun}
 use Rattle.back_core.proofs.Replacing.{node_on, nodes_on}
 use Rattle.back_core.proofs.Grouped.{nodes_on-group, nodes_on-untouched}
 use Rattle.back_core.proofs.Adding.{own_log}
-use Rattle.back_core.proofs.Made.{maker, maker_is_maker}
+use Rattle.back_core.proofs.Makers.{maker, maker_is_maker}
 use Rattle.back_core.proofs.Plans.{flushed, nodes_in, device_log, plan}
 use Rattle.back_core.proofs.OwnLogs.{host_made}
 use Rattle.back_core.proofs.Planned.{LeavesAlone, flushed_untouched, of_makers}
