@@ -4,3 +4,4 @@ mod Runs
 mod Lists
 mod Parts
 mod Numbered
+mod Going
