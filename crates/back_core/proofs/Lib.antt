@@ -5,3 +5,5 @@ mod Lists
 mod Parts
 mod Numbered
 mod Going
+mod Placed
+mod Journals
