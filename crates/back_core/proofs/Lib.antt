@@ -7,3 +7,5 @@ mod Numbered
 mod Going
 mod Placed
 mod Journals
+mod Made
+mod Known
