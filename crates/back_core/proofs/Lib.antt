@@ -9,3 +9,4 @@ mod Placed
 mod Journals
 mod Made
 mod Known
+mod Alone
