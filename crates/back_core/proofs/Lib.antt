@@ -10,3 +10,4 @@ mod Journals
 mod Made
 mod Known
 mod Alone
+mod Idle
