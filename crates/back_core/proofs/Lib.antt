@@ -11,3 +11,4 @@ mod Made
 mod Known
 mod Alone
 mod Idle
+mod Work
