@@ -12,3 +12,4 @@ mod Known
 mod Alone
 mod Idle
 mod Work
+mod Piles
