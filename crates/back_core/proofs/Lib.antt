@@ -17,3 +17,12 @@ mod Planned
 mod Layouts
 mod Visible
 mod Agreeing
+mod Going
+mod Placed
+mod Journals
+mod Made
+mod Known
+mod Alone
+mod Idle
+mod Work
+mod Piles
