@@ -1,5 +1,5 @@
 -- The plan: what the device accepted, and behind it the nodes that it is to accept.
-use Rattle.std.proofs.Common.{◌≡◌, ℕ, ◌+◌, ◌≤◌, cond, List, [], ◌∷◌, ◌++◌, length, map, drop, take, refl, sym, ap, ◌∙◌, subst, arith, append_assoc, length-append}
+use Rattle.std.proofs.Common.{◌≡◌, ℕ, ◌+◌, ◌≤◌, cond, List, [], ◌∷◌, ◌++◌, length, map, drop, take, refl, sym, ap, ◌∙◌, arith, append_assoc}
 use Rattle.std.specs.Prelude.{Some}
 use Rattle.std.specs.List.{flat_map}
 use Rattle.std.proofs.lemmas.List.{append-nil, map-append, drop-append-le}
@@ -20,10 +20,11 @@ use Rattle.back_core.specs.declared.back_event.BackEvent.TheVariants.{Created, W
 use Rattle.back_core.specs.History.{queue_event, queue_history}
 use Rattle.back_core.specs.Run.{submission, destroys, covered_in, logged_by, journal_of, MayHappen, IsRun}
 use Rattle.back_core.proofs.Sees.{queue_then}
-use Rattle.back_core.proofs.Runs.{journal_nil, journal_then, of_each_run}
+use Rattle.back_core.proofs.Runs.{journal_nil, journal_then}
 use Rattle.back_core.proofs.Lists.{some_at}
 use Rattle.back_core.proofs.Parts.{pushed, pushed_in, pushed_then}
-use Rattle.back_core.proofs.Each.{Each, Each-nil, Each-one, Each-append, drop_from}
+use Rattle.back_core.proofs.Going.{numbered, goes}
+use Rattle.back_core.proofs.Each.{Each, drop_from}
 use Rattle.back_core.proofs.Adding.{IsOther}
 
 -- The batches
@@ -47,36 +48,8 @@ pub record IsFed (h : List BackEvent) : Type 0 where
   pub within : accepted h ≤ length (pushed h)
   pub one_queue : Each IsOfOneQueue (pushed h)
 
-fed_still : (h : List BackEvent) (e : BackEvent) → pushed_in e ≡ [] → accepted_in e ≡ 0 → IsFed h → IsFed (h ++ e ∷ [])
-fed_still h e none not_one fed =
-    let same : pushed (h ++ e ∷ []) ≡ pushed h = pushed_then h e ∙ ap (λ l. pushed h ++ l) none ∙ append-nil (pushed h) in record {
-      within = omega (arith, fed.within, ap length same, accepted_then h e, not_one);
-      one_queue = subst (Each IsOfOneQueue) (sym same) fed.one_queue;
-    }
-
-fed_then : (h : List BackEvent) (e : BackEvent) → MayHappen h e → IsFed h → IsFed (h ++ e ∷ [])
-fed_then h (Created group id kind) may fed = fed_still h (Created group id kind) refl refl fed
-fed_then h (Wrote group id at bytes) may fed = fed_still h (Wrote group id at bytes) refl refl fed
-fed_then h (Enqueued b) may fed = record {
-  within = omega (arith, fed.within, ap length (pushed_then h (Enqueued b)), length-append (pushed h) (b ∷ []), accepted_then h (Enqueued b));
-  one_queue = subst (Each IsOfOneQueue) (sym (pushed_then h (Enqueued b))) (Each-append IsOfOneQueue (pushed h) (b ∷ []) fed.one_queue (Each-one IsOfOneQueue b may.1.one_queue));
-}
-fed_then h Submitted may fed =
-    let same : pushed (h ++ Submitted ∷ []) ≡ pushed h = pushed_then h Submitted ∙ append-nil (pushed h) in record {
-      within = omega (arith, may, ap length same, accepted_then h Submitted);
-      one_queue = subst (Each IsOfOneQueue) (sym same) fed.one_queue;
-    }
-fed_then h (Ran batch node) may fed = fed_still h (Ran batch node) refl refl fed
-fed_then h (Retired serial) may fed = fed_still h (Retired serial) refl refl fed
-fed_then h (Fetched group id at bytes) may fed = fed_still h (Fetched group id at bytes) refl refl fed
-fed_then h (Gave group id uses) may fed = fed_still h (Gave group id uses) refl refl fed
-fed_then h (Abandoned group id) may fed = fed_still h (Abandoned group id) refl refl fed
-fed_then h (Cleaned read destroyed) may fed = fed_still h (Cleaned read destroyed) refl refl fed
-fed_then h Closing may fed = fed_still h Closing refl refl fed
-fed_then h (Stopped stop) may fed = fed_still h (Stopped stop) refl refl fed
-
 pub is_fed : (h : List BackEvent) → IsRun h → IsFed h
-is_fed = of_each_run IsFed (record { within = omega arith; one_queue = Each-nil IsOfOneQueue }) (λ h e run may fed. fed_then h e may fed)
+is_fed h run = record { within = (goes h run).taken; one_queue = (numbered h run).one_queue }
 
 flushed_still : (h : List BackEvent) (e : BackEvent) → pushed_in e ≡ [] → accepted_in e ≡ 0 → flushed (h ++ e ∷ []) ≡ flushed h
 flushed_still h e none not_one =
