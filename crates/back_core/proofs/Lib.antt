@@ -13,3 +13,4 @@ mod Alone
 mod Idle
 mod Work
 mod Piles
+mod Given
