@@ -32,7 +32,7 @@ use Rattle.back_core.proofs.Piles.{IsIn, in_front, in_back, in_parts, IsAway, Ar
 -- One more event
 
 -- the uses with which an event gives an object of a group away
-abbrev Gives : BackEvent → ℕ → ℕ → List QueueSerial → Type 0
+abbrev pub Gives : BackEvent → ℕ → ℕ → List QueueSerial → Type 0
 Gives (Created group id kind) g i uses = ⊥
 Gives (Wrote group id at bytes) g i uses = ⊥
 Gives (Enqueued b) g i uses = ⊥

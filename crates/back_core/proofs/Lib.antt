@@ -14,3 +14,4 @@ mod Idle
 mod Work
 mod Piles
 mod Given
+mod Lives
