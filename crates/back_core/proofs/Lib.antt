@@ -15,3 +15,5 @@ mod Work
 mod Piles
 mod Given
 mod Lives
+mod Fits
+mod Meets
