@@ -90,7 +90,7 @@ known = of_each_run AllKnown (subst (λ j. (g : ℕ) → IsKnown (creates j) (ow
 -- Kinds
 
 -- the kind with which an event makes an object for a group
-abbrev Makes : BackEvent → ℕ → ℕ → Kind → Type 0
+abbrev pub Makes : BackEvent → ℕ → ℕ → Kind → Type 0
 Makes (Created group id kind) g i k = (group ≡ g) × (i ≡ id.0) × (kind ≡ k)
 Makes (Wrote group id at bytes) g i k = ⊥
 Makes (Enqueued b) g i k = ⊥

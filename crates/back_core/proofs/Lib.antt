@@ -26,3 +26,7 @@ mod Alone
 mod Idle
 mod Work
 mod Piles
+mod Given
+mod Lives
+mod Fits
+mod Meets

@@ -63,7 +63,7 @@ pub queue_same : (h : List BackEvent) (e : BackEvent) → queue_event e ≡ [] �
 queue_same h e none = queue_then h e ∙ (ap (λ l. queue_history h ++ l) none ∙ append-nil (queue_history h))
 
 -- an event that is none of the queue's
-completed_same : (h : List BackEvent) (e : BackEvent) → queue_event e ≡ [] → completed (h ++ e ∷ []) ≡ completed h
+pub completed_same : (h : List BackEvent) (e : BackEvent) → queue_event e ≡ [] → completed (h ++ e ∷ []) ≡ completed h
 completed_same h e none = fun_ext (λ i. ap (λ q. queue.completed q i) (queue_same h e none))
 
 -- the record of a part of the history, with the completed numbers
