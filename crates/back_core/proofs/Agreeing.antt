@@ -16,7 +16,7 @@ use Rattle.vk_model.proofs.Lists.{agrees_with}
 use Rattle.vk_model.proofs.Parts.{part-at, length-part}
 use Rattle.vk_model.proofs.SameKinds.{eval_same_kinds}
 use Rattle.vk_device.specs.Journal.{kind_of, ReachesTo}
-use Rattle.vk_device.specs.Order.{contents, kinds_of as made_with}
+use Rattle.vk_device.specs.Order.{kinds_of as made_with}
 use Rattle.vk_device.specs.Running.{IsInOrder}
 use Rattle.vk_device.proofs.Steps.{reads_in_order}
 use Rattle.back_core.specs.declared.back_event.BackEvent.{BackEvent}

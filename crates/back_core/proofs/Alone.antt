@@ -1,16 +1,15 @@
 -- Objects whose batches were all retired are left alone.
-use Rattle.std.proofs.Common.{◌≡◌, ℕ, zero, suc, ◌+◌, ◌<◌, ◌≤◌, Bool, true, false, List, [], ◌∷◌, ◌++◌, length, refl, sym, ap, ◌∙◌, subst, inl, inr, arith}
-use Rattle.std.specs.Prelude.{◌/◌, ◌⊎◌, Some, None, slice_get, Contains}
+use Rattle.std.proofs.Common.{◌≡◌, ℕ, zero, suc, ◌<◌, ◌≤◌, Bool, true, List, [], ◌∷◌, sym, ap, ◌∙◌, subst, arith}
+use Rattle.std.specs.Prelude.{◌/◌, Some, slice_get, Contains}
 use Rattle.std.specs.List.{list_any}
 use Rattle.std.proofs.lemmas.Bool.{false_from_ne_true, or_left, or_right}
 use Rattle.std.proofs.lemmas.Option.{same_Some, none-some, slice_get_within}
-use Rattle.vk_types.specs.declared.ops.Node.{Node}
 use Rattle.vk_types.specs.declared.batches.Batch.{Batch}
-use Rattle.vk_model.specs.Log.{Item, Command, touches_object}
-use Rattle.vk_model.specs.Meaning.{touches_id, IsSettled}
+use Rattle.vk_model.specs.Log.{Item, touches_object}
+use Rattle.vk_model.specs.Meaning.{touches_id}
 use Rattle.vk_model.proofs.Groups.{touches_id_is}
-use Rattle.vk_device.specs.Journal.{creates, accepted}
-use Rattle.vk_device.specs.Order.{log_of, order_of, place_of}
+use Rattle.vk_device.specs.Journal.{accepted}
+use Rattle.vk_device.specs.Order.{order_of}
 use Rattle.submit_queue.specs.Histories as queue
 use Rattle.back_core.specs.declared.back_event.BackEvent.{BackEvent}
 use Rattle.back_core.specs.Own.{batch_touches}
@@ -22,7 +21,6 @@ use Rattle.back_core.proofs.Parts.{pushed, use_counts}
 use Rattle.back_core.proofs.Going.{IsExecuted, completed_ran}
 use Rattle.back_core.proofs.Placed.{Stands, by_host, in_batch}
 use Rattle.back_core.proofs.Journals.{in_step}
-use Rattle.back_core.proofs.Made.{IsMade}
 use Rattle.back_core.proofs.Known.{known, one_group, touches_own}
 
 pub any_of : {X : Type 0} (p : X → Bool) (xs : List X) (k : ℕ) (x : X) → slice_get xs k ≡ Some x → p x ≡ true → list_any p xs ≡ true

@@ -1,8 +1,7 @@
 -- Nodes fit the objects that they touch, whatever the others are.
-use Rattle.std.proofs.Common.{◌≡◌, ℕ, zero, suc, ◌+◌, ◌<◌, ◌≤◌, ◌==◌, Bool, true, List, [], ◌∷◌, ◌++◌, length, get_or, refl, sym, ap, ◌∙◌, subst, inl, inr, arith}
-use Rattle.std.specs.Prelude.{◌/◌, ◌⊎◌, ◌||◌, Some, Option, All, slice_get, IsSome}
-use Rattle.std.proofs.lemmas.Bool.{eq-eqb, or_left, or_right}
-use Rattle.std.proofs.lemmas.List.Elements.{All-nil}
+use Rattle.std.proofs.Common.{◌≡◌, ℕ, ◌==◌, true, List, [], ◌∷◌, ◌++◌, length, get_or, refl, sym, ap, ◌∙◌, subst, inl, inr}
+use Rattle.std.specs.Prelude.{◌/◌, ◌⊎◌, Some, Option, All, slice_get, IsSome}
+use Rattle.std.proofs.lemmas.Bool.{eq-eqb}
 use Rattle.std.proofs.lemmas.Option.{none-some, slice_get-get_or}
 use Rattle.vk_types.specs.declared.handles.Kind.{Kind}
 use Rattle.vk_types.specs.declared.ops.Op.{Op}
@@ -48,9 +47,12 @@ module _ (kinds kinds' : ℕ → Option Kind) where
       (range src.0 src_at (rows_size r stride texel_size) (same _ 0 refl) fits.0, rect dst.0 r (same _ 1 refl) fits.1, texels dst.0 texel_size (same _ 1 refl) fits.2)
   op_fits (ImageToBuffer src r dst dst_at stride texel_size expand) same fits =
       (rect src.0 r (same _ 0 refl) fits.0, texels src.0 texel_size (same _ 0 refl) fits.1, range dst.0 dst_at (rows_size r stride (buffer_texel texel_size expand)) (same _ 1 refl) fits.2)
-  op_fits (CopyImage src src_x src_y dst r) same fits =
-      (rect src.0 (record { x = src_x; y = src_y; w = r.w; h = r.h }) (same _ 0 refl) fits.0, rect dst.0 r (same _ 1 refl) fits.1,
-      ap format_in (sym (same _ 0 refl)) ∙ fits.2 ∙ ap format_in (same _ 1 refl), fits.3)
+  op_fits (CopyImage src src_x src_y dst r) same fits = (
+    rect src.0 (record { x = src_x; y = src_y; w = r.w; h = r.h }) (same _ 0 refl) fits.0,
+    rect dst.0 r (same _ 1 refl) fits.1,
+    ap format_in (sym (same _ 0 refl)) ∙ fits.2 ∙ ap format_in (same _ 1 refl),
+    fits.3,
+  )
   op_fits (BlitImage src dst coords clip) same fits = (image src.0 (same _ 0 refl) fits.0, rect dst.0 clip (same _ 1 refl) fits.1, fits.2)
   op_fits (ClearImage id r texel) same fits = rect id.0 r (same _ 0 refl) fits
   op_fits (FillBuffer dst dst_at size byte) same fits = range dst.0 dst_at size (same _ 0 refl) fits

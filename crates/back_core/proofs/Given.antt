@@ -1,33 +1,28 @@
 -- What the groups of a run gave away.
-use Rattle.std.proofs.Common.{◌≡◌, ◌≢◌, ℕ, ◌+◌, ◌<◌, ◌≤◌, ◌==◌, Bool, true, false, List, [], ◌∷◌, ◌++◌, length, take, refl, sym, ap, ◌∙◌, subst, inl, inr, arith}
-use Rattle.std.specs.Prelude.{◌/◌, ◌⊎◌, Some, None, Option, slice_get, slice_index}
-use Rattle.std.proofs.lemmas.Bool.{cases_eq, cases_lt, false≢true, or_left}
+use Rattle.std.proofs.Common.{◌≡◌, ℕ, ◌+◌, ◌≤◌, true, List, [], ◌∷◌, ◌++◌, length, refl, sym, ap, ◌∙◌, subst, inl, inr, arith}
+use Rattle.std.specs.Prelude.{◌/◌, ◌⊎◌, Some, None, slice_get}
+use Rattle.std.proofs.lemmas.Bool.{cases_eq}
 use Rattle.std.proofs.lemmas.Option.{same_Some, none-some}
-use Rattle.vk_types.specs.declared.handles.Kind.{Kind}
 use Rattle.vk_types.specs.declared.batches.Batch.{Batch}
 use Rattle.vk_types.specs.declared.batches.QueueSerial.{QueueSerial}
 use Rattle.resource_use.specs.Uses.{number_of}
 use Rattle.garbage.specs.declared.entry.Garbage.{Garbage}
-use Rattle.garbage.specs.Collecting.{is_covered}
 use Rattle.vk_device.specs.Journal.{creates}
-use Rattle.submit_queue.specs.Histories as queue
 use Rattle.back_core.specs.declared.back_event.BackEvent.{BackEvent}
 use Rattle.back_core.specs.declared.back_event.BackEvent.TheVariants.{Created, Wrote, Enqueued, Submitted, Ran, Retired, Fetched, Gave, Abandoned, Cleaned, Closing, Stopped}
-use Rattle.back_core.specs.Own as own
-use Rattle.back_core.specs.Own.{batch_touches, batches_of, last_use, next_number}
+use Rattle.back_core.specs.Own.{batch_touches, last_use, next_number}
 use Rattle.back_core.specs.Link.{Link, put, created, wrote, enqueued, fetched, gave, abandoned}
-use Rattle.back_core.specs.Needs.{MayTouch, MayGive, IsOfGroup}
-use Rattle.back_core.specs.History.{queue_event, queue_history, completed, link_of, if_own, link_after, own_part}
-use Rattle.back_core.specs.Run.{garbage_of, garbage_after, without_covered, covered_in, journal_of, MayHappen, WereRead, IsRun}
-use Rattle.back_core.proofs.Sees.{part_then, queue_then, completed_same}
+use Rattle.back_core.specs.Needs.{MayTouch, IsOfGroup}
+use Rattle.back_core.specs.History.{link_after, own_part}
+use Rattle.back_core.specs.Run.{garbage_of, garbage_after, journal_of, MayHappen, IsRun}
+use Rattle.back_core.proofs.Sees.{part_then}
 use Rattle.back_core.proofs.Runs.{of_each_run, garbage_nil, garbage_then}
 use Rattle.back_core.proofs.Lists.{get_then}
 use Rattle.back_core.proofs.Parts.{either, pushed, pushed_in, pushed_then, pushed_same, own_last_number, use_counts}
-use Rattle.back_core.proofs.Numbered.{reach_holds, reach_far}
-use Rattle.back_core.proofs.Going.{gone_next, retired_next, numbered}
-use Rattle.back_core.proofs.Made.{put_here, put_other, none_or_some, IsMade, IsKnown, touch_made}
+use Rattle.back_core.proofs.Going.{numbered}
+use Rattle.back_core.proofs.Made.{put_here, put_other, none_or_some, IsMade, touch_made}
 use Rattle.back_core.proofs.Known.{known, one_group, touches_own}
-use Rattle.back_core.proofs.Piles.{IsIn, in_front, in_back, in_parts, IsAway, AreApart, apart_then, apart_left, left_in, left_or_covered, covered_number}
+use Rattle.back_core.proofs.Piles.{IsIn, in_parts, IsAway, AreApart, apart_then, apart_left, left_in}
 
 -- One more event
 

@@ -1,9 +1,8 @@
 -- How far the batches of a run are.
 use mathlib.Core.Path.{fun_ext}
-use Rattle.std.proofs.Common.{◌≡◌, ℕ, ◌+◌, ◌<◌, ◌≤◌, ◌==◌, Bool, true, false, cond, List, [], ◌∷◌, ◌++◌, length, refl, sym, ap, ◌∙◌, subst, inl, inr, arith}
-use Rattle.std.specs.Prelude.{◌⊎◌, ◌||◌, ◌&&◌, ◌/◌, Some, None, slice_get}
-use Rattle.std.specs.List.{list_any}
-use Rattle.std.proofs.lemmas.Bool.{cases_lt, cases_order, eq-eqb, eqb-true, and_from, and_parts, or_cases, or_left, or_right, false≢true}
+use Rattle.std.proofs.Common.{◌≡◌, ℕ, ◌+◌, ◌<◌, ◌≤◌, ◌==◌, Bool, true, false, cond, List, [], ◌∷◌, ◌++◌, refl, sym, ap, ◌∙◌, subst, inl, inr, arith}
+use Rattle.std.specs.Prelude.{◌⊎◌, ◌||◌, ◌/◌, Some, slice_get}
+use Rattle.std.proofs.lemmas.Bool.{cases_order, eq-eqb, eqb-true, and_from, and_parts, or_cases, or_left, or_right, false≢true}
 use Rattle.std.proofs.lemmas.List.{append-nil}
 use Rattle.std.proofs.lemmas.List.Concat.{flat_map-append}
 use Rattle.std.proofs.lemmas.List.Folds.{list_any-append}
@@ -12,12 +11,11 @@ use Rattle.std.proofs.lemmas.Option.{slice_get_within, none-some}
 use Rattle.vk_types.specs.declared.batches.Batch.{Batch}
 use Rattle.vk_types.specs.declared.batches.QueueSerial.{QueueSerial}
 use Rattle.submit_queue.specs.Histories as queue
-use Rattle.submit_queue.specs.Kept.{HasNumber}
 use Rattle.back_core.specs.declared.back_event.BackEvent.{BackEvent}
 use Rattle.back_core.specs.declared.back_event.BackEvent.TheVariants.{Created, Wrote, Enqueued, Submitted, Ran, Retired, Fetched, Gave, Abandoned, Cleaned, Closing, Stopped}
 use Rattle.back_core.specs.Needs.{MayEnqueue}
 use Rattle.back_core.specs.History.{queue_history, completed, link_of, own_part}
-use Rattle.back_core.specs.Run.{MayHappen, MayRetire, IsRun}
+use Rattle.back_core.specs.Run.{MayHappen, IsRun}
 use Rattle.back_core.proofs.Sees.{queue_then, queue_same}
 use Rattle.back_core.proofs.Runs.{of_each_run}
 use Rattle.back_core.proofs.Lists.{some_at}
@@ -117,8 +115,8 @@ module _ (q : List queue.Event) (are : AreNumbered (queue.batches q)) (going : G
   goes_ran k i may =
       moved (sym (batches_stay q (queue.Ran k i) refl)) (omega (arith, accepted_next q (queue.Ran k i))) (omega (arith, retired_next q (queue.Ran k i))) refl (sym (gone_stays q (queue.Ran k i) (λ j n. refl)))
       (going_ran (queue.batches q) (queue.accepted q) (queue.retired q) (queue.has_run q) (queue.is_retired q) are going (queue.has_run (q ++ queue.Ran k i ∷ []))
-        (λ l j was. ran_next q (queue.Ran k i) l j ∙ or_left (queue.has_run q l j) (queue.is_run l j (queue.Ran k i)) was)
-        (λ l j was. early l j (or_cases (queue.has_run q l j) (queue.is_run l j (queue.Ran k i)) (sym (ran_next q (queue.Ran k i) l j) ∙ was))))
+      (λ l j was. ran_next q (queue.Ran k i) l j ∙ or_left (queue.has_run q l j) (queue.is_run l j (queue.Ran k i)) was)
+      (λ l j was. early l j (or_cases (queue.has_run q l j) (queue.is_run l j (queue.Ran k i)) (sym (ran_next q (queue.Ran k i) l j) ∙ was))))
     where
       early : (l j : ℕ) → (queue.has_run q l j ≡ true) ⊎ (queue.is_run l j (queue.Ran k i) ≡ true) → l < queue.accepted q
       early l j (inl old) = going.early l j old
@@ -128,11 +126,11 @@ module _ (q : List queue.Event) (are : AreNumbered (queue.batches q)) (going : G
   goes_retired serial place can index number =
       moved (sym (batches_stay q (queue.Retired serial) refl)) (omega (arith, accepted_next q (queue.Retired serial))) (omega (arith, retired_next q (queue.Retired serial))) (sym (ran_stays q (queue.Retired serial) (λ k i. refl))) refl
       (going_retired (queue.batches q) (queue.accepted q) (queue.retired q) (queue.has_run q) (queue.is_retired q) are going can.batch
-        (ap (slice_get (queue.batches q)) (sym here) ∙ can.at) (omega (arith, here, can.accepted_before)) (λ i lt. subst (λ k. queue.has_run q k i ≡ true) here (can.executed i lt))
-        (queue.is_retired (q ++ queue.Retired serial ∷ []))
-        (gone_next q (queue.Retired serial) can.batch.index can.batch.number ∙ or_right (queue.is_retired q can.batch.index can.batch.number) _ (and_from (serial.index == can.batch.index) (serial.number == can.batch.number) (eq-eqb serial.index can.batch.index index) (eq-eqb serial.number can.batch.number number)))
-        (λ i n was. gone_next q (queue.Retired serial) i n ∙ or_left (queue.is_retired q i n) (queue.is_retirement i n (queue.Retired serial)) was)
-        (λ i n was. only i n (or_cases (queue.is_retired q i n) (queue.is_retirement i n (queue.Retired serial)) (sym (gone_next q (queue.Retired serial) i n) ∙ was))))
+      (ap (slice_get (queue.batches q)) (sym here) ∙ can.at) (omega (arith, here, can.accepted_before)) (λ i lt. subst (λ k. queue.has_run q k i ≡ true) here (can.executed i lt))
+      (queue.is_retired (q ++ queue.Retired serial ∷ []))
+      (gone_next q (queue.Retired serial) can.batch.index can.batch.number ∙ or_right (queue.is_retired q can.batch.index can.batch.number) _ (and_from (serial.index == can.batch.index) (serial.number == can.batch.number) (eq-eqb serial.index can.batch.index index) (eq-eqb serial.number can.batch.number number)))
+      (λ i n was. gone_next q (queue.Retired serial) i n ∙ or_left (queue.is_retired q i n) (queue.is_retirement i n (queue.Retired serial)) was)
+      (λ i n was. only i n (or_cases (queue.is_retired q i n) (queue.is_retirement i n (queue.Retired serial)) (sym (gone_next q (queue.Retired serial) i n) ∙ was))))
     where
       here : place ≡ queue.retired q
       here = next_to_retire q place are going can

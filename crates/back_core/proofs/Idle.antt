@@ -1,7 +1,7 @@
 -- What ran, and what is left when nothing more may run.
-use Rattle.std.proofs.Common.{◌≡◌, ℕ, zero, suc, ◌+◌, ◌<◌, ◌≤◌, Bool, true, false, List, [], ◌∷◌, ◌++◌, length, map, refl, sym, ap, ◌∙◌, subst, inl, inr, arith, length-append}
-use Rattle.std.specs.Prelude.{◌⊎◌, ◌/◌, Some, None, Option, slice_get, Contains, option_and_then}
-use Rattle.std.proofs.lemmas.Bool.{cases_order, cases_lt, cases_eq, cases_Bool, false≢true, true_from_ne_false, false_from_ne_true}
+use Rattle.std.proofs.Common.{◌≡◌, ℕ, zero, suc, ◌+◌, ◌<◌, ◌≤◌, Bool, true, List, [], ◌∷◌, ◌++◌, length, map, refl, sym, ap, ◌∙◌, subst, inl, inr, arith, length-append}
+use Rattle.std.specs.Prelude.{◌⊎◌, ◌/◌, Some, None, slice_get, Contains}
+use Rattle.std.proofs.lemmas.Bool.{cases_order, cases_lt, cases_eq, false≢true, false_from_ne_true}
 use Rattle.std.proofs.lemmas.List.{append-nil, append_assoc, length-map}
 use Rattle.std.proofs.lemmas.Option.{same_Some, none-some, slice_get_within, option_and_then_some}
 use Rattle.vk_types.specs.declared.ops.Node.{Node}
@@ -11,16 +11,15 @@ use Rattle.vk_model.specs.Meaning.{IsSettled}
 use Rattle.garbage.specs.declared.entry.Garbage.{Garbage}
 use Rattle.vk_device.specs.declared.logged.Logged.{Logged}
 use Rattle.vk_device.specs.declared.logged.Logged.TheVariants as logged
-use Rattle.vk_device.specs.Journal.{accepts, accepted, node_at}
+use Rattle.vk_device.specs.Journal.{accepted, node_at}
 use Rattle.vk_device.specs.Order.{entry_items, log_of, order_of, batch_start, place_of, AllRan}
 use Rattle.vk_device.proofs.Orders.{quiet}
 use Rattle.vk_device.proofs.Starts.{accepted-cons, accepted-nil}
 use Rattle.submit_queue.specs.Histories as queue
 use Rattle.submit_queue.specs.Kept.{HasNumber}
 use Rattle.back_core.specs.declared.back_event.BackEvent.{BackEvent}
-use Rattle.back_core.specs.Own.{batches_of}
 use Rattle.back_core.specs.Needs.{MayEnqueue, HasBatch}
-use Rattle.back_core.specs.History.{queue_history, completed, link_of, own_part}
+use Rattle.back_core.specs.History.{queue_history, completed, link_of}
 use Rattle.back_core.specs.Run.{destroys, journal_of, IsRun}
 use Rattle.back_core.proofs.Lists.{some_at, get_taken}
 use Rattle.back_core.proofs.Parts.{pushed, own_last_number, other_last_number}
@@ -65,8 +64,14 @@ starts_rise (logged.Submitted c ∷ journal) zero (suc k) b lt inside at =
     omega (arith, count, nodes)
   where
     items : (c : Batch) → length (map (Wait c.queue) c.waits ++ (map (Command c.queue) c.nodes ++ map (Signal c.queue) c.signals)) ≡ length c.waits + (length c.nodes + length c.signals)
-    items c = omega (arith, length-append (map (Wait c.queue) c.waits) (map (Command c.queue) c.nodes ++ map (Signal c.queue) c.signals), length-append (map (Command c.queue) c.nodes) (map (Signal c.queue) c.signals),
-      length-map c.waits (Wait c.queue), length-map c.nodes (Command c.queue), length-map c.signals (Signal c.queue))
+    items c = omega (
+      arith,
+      length-append (map (Wait c.queue) c.waits) (map (Command c.queue) c.nodes ++ map (Signal c.queue) c.signals),
+      length-append (map (Command c.queue) c.nodes) (map (Signal c.queue) c.signals),
+      length-map c.waits (Wait c.queue),
+      length-map c.nodes (Command c.queue),
+      length-map c.signals (Signal c.queue),
+    )
 starts_rise (logged.Submitted c ∷ journal) (suc j) zero b lt inside at = absurd (omega (arith, lt))
 starts_rise (logged.Submitted c ∷ journal) (suc j) (suc k) b lt inside at =
     let rest : batch_start journal j + length b.nodes ≤ batch_start journal k
@@ -170,7 +175,7 @@ module _ (h : List BackEvent) (run : IsRun h) where
           gone : (m : ℕ) → HasNumber (pushed h) index m → queue.is_retired (queue_history h) index m ≡ true
           gone m has = subst (λ n. queue.is_retired (queue_history h) index n ≡ true) has.of_number
               (subst (λ i. queue.is_retired (queue_history h) i has.batch.number ≡ true) has.of_index
-                ((goes h run).past has.place has.batch has.at (omega (arith, slice_get_within (pushed h) has.place has.batch has.at, all_retired))))
+              ((goes h run).past has.place has.batch has.at (omega (arith, slice_get_within (pushed h) has.place has.batch has.at, all_retired))))
 
       -- where nothing is left to do, each batch of a group is completed
       pub all_done : (g index number : ℕ) → HasBatch (link_of h g) index number → number ≤ completed h index

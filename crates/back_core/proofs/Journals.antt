@@ -1,6 +1,6 @@
 -- The journal of a run beside the history of the queue.
-use Rattle.std.proofs.Common.{◌≡◌, ℕ, suc, ◌+◌, ◌<◌, ◌≤◌, ◌==◌, Bool, true, false, List, [], ◌∷◌, ◌++◌, length, take, refl, sym, ap, ◌∙◌, subst, inl, inr, arith}
-use Rattle.std.specs.Prelude.{◌⊎◌, Some, None, slice_get}
+use Rattle.std.proofs.Common.{◌≡◌, ℕ, suc, ◌≤◌, ◌==◌, true, List, [], ◌∷◌, ◌++◌, length, take, refl, sym, ap, ◌∙◌, subst, inl, inr, arith}
+use Rattle.std.specs.Prelude.{◌⊎◌, Some, slice_get}
 use Rattle.std.proofs.lemmas.Bool.{and_parts, and_from, eqb-true, eq-eqb, or_cases, or_left, or_right}
 use Rattle.std.proofs.lemmas.List.{append-nil, append_assoc, take-append-le}
 use Rattle.vk_types.specs.declared.batches.Batch.{Batch}
@@ -20,8 +20,7 @@ use Rattle.back_core.proofs.Sees.{queue_then, queue_same}
 use Rattle.back_core.proofs.Runs.{of_each_run, journal_nil, journal_then}
 use Rattle.back_core.proofs.Lists.{some_at, take_then, get_taken}
 use Rattle.back_core.proofs.Parts.{pushed}
-use Rattle.back_core.proofs.Numbered.{AreNumbered}
-use Rattle.back_core.proofs.Going.{numbered, Goes, goes, accepted_next, batches_next, batches_stay, ran_next, ran_stays}
+use Rattle.back_core.proofs.Going.{numbered, goes, accepted_next, batches_next, batches_stay, ran_next, ran_stays}
 use Rattle.back_core.proofs.Placed.{IsPlaced, none_placed, placed_quiet, placed_wrote, placed_submitted, placed_ran}
 
 -- the device accepted the first batches of the queue, and its log has their nodes
@@ -132,7 +131,7 @@ in_step = of_each_run (λ h. AreInStep (queue_history h) (journal_of h)) (subst 
         let b = some_at (pushed h) (queue.accepted (queue_history h)) may in
         both h Submitted (queue_history h ++ queue.Accepted ∷ []) (queue_then h Submitted)
         (subst (λ o. AreInStep (queue_history h ++ queue.Accepted ∷ []) (journal_of h ++ submission o)) (sym b.1)
-          (in_step_accepted (queue_history h) (journal_of h) has b.0 b.1 ((numbered h run).one_queue (queue.accepted (queue_history h)) b.0 b.1)))
+        (in_step_accepted (queue_history h) (journal_of h) has b.0 b.1 ((numbered h run).one_queue (queue.accepted (queue_history h)) b.0 b.1)))
     step h (Ran batch node) run may has =
         both h (Ran batch node) (queue_history h ++ queue.Ran batch node ∷ []) (queue_then h (Ran batch node))
         (in_step_ran (queue_history h) (journal_of h) has batch node may ((numbered h run).one_queue batch may.what may.at))

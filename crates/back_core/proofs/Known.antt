@@ -1,28 +1,27 @@
 -- What the groups of a run made, and what they still hold.
-use Rattle.std.proofs.Common.{◌≡◌, ◌≢◌, ℕ, ◌+◌, ◌<◌, ◌≤◌, ◌==◌, Bool, true, false, List, [], ◌∷◌, ◌++◌, fold, length, refl, sym, ap, ◌∙◌, subst, inl, inr, arith}
-use Rattle.std.specs.Prelude.{◌/◌, ◌⊎◌, Some, None, Option, slice_get}
+use Rattle.std.proofs.Common.{◌≡◌, ℕ, ◌+◌, ◌≤◌, true, false, List, [], ◌∷◌, ◌++◌, length, refl, sym, ap, ◌∙◌, subst, inl, inr, arith}
+use Rattle.std.specs.Prelude.{◌/◌, ◌⊎◌, Some, slice_get}
 use Rattle.std.proofs.lemmas.Bool.{cases_eq}
 use Rattle.std.proofs.lemmas.List.{append-nil, append_assoc}
 use Rattle.std.proofs.lemmas.List.Elements.{All-nil}
 use Rattle.std.proofs.lemmas.Option.{none-some}
 use Rattle.vk_types.specs.declared.handles.Kind.{Kind}
 use Rattle.vk_types.specs.declared.batches.Batch.{Batch}
-use Rattle.vk_types.specs.declared.batches.QueueSerial.{QueueSerial}
 use Rattle.vk_device.specs.declared.logged.Logged.{Logged}
 use Rattle.vk_device.specs.declared.logged.Logged.TheVariants as logged
-use Rattle.vk_device.specs.Journal.{create_of, creates}
+use Rattle.vk_device.specs.Journal.{creates}
 use Rattle.vk_device.proofs.Laws.{creates-push}
 use Rattle.back_core.specs.declared.back_event.BackEvent.{BackEvent}
 use Rattle.back_core.specs.declared.back_event.BackEvent.TheVariants.{Created, Wrote, Enqueued, Submitted, Ran, Retired, Fetched, Gave, Abandoned, Cleaned, Closing, Stopped}
 use Rattle.back_core.specs.Own.{own_touches, batch_touches}
 use Rattle.back_core.specs.Link.{Link, put, created, wrote, enqueued, fetched, gave, abandoned}
-use Rattle.back_core.specs.History.{if_own, link_after, own_part}
+use Rattle.back_core.specs.History.{link_after, own_part}
 use Rattle.back_core.specs.Run.{logged_by, journal_of, MayHappen, IsRun}
 use Rattle.back_core.proofs.Sees.{part_then}
 use Rattle.back_core.proofs.Runs.{of_each_run, journal_nil, journal_then}
 use Rattle.back_core.proofs.Parts.{either, pushed, pushed_then, pushed_same, pushed_in}
 use Rattle.back_core.proofs.Lists.{get_then}
-use Rattle.back_core.proofs.Made.{put_here, put_other, none_or_some, IsMade, IsKnown, known_weaker, known_created, known_wrote, known_fetched, known_enqueued, known_abandoned, known_gave, touch_made}
+use Rattle.back_core.proofs.Made.{put_here, put_other, IsMade, IsKnown, known_weaker, known_created, known_wrote, known_fetched, known_enqueued, known_abandoned, known_gave, touch_made}
 
 -- The count of creates
 
@@ -45,8 +44,8 @@ module _ (h : List BackEvent) (so_far : AllKnown h) (g : ℕ) where
       let more : creates (journal_of (h ++ Created group id kind ∷ [])) ≡ creates (journal_of h) + 1 = ap creates (journal_then h (Created group id kind)) ∙ creates-push (journal_of h) (logged.Created id kind) in
       subst (λ n. IsKnown n (link_after (own_part h g) (Created group id kind))) (sym more)
       (either (IsKnown (creates (journal_of h) + 1)) h g group (created (own_part h g) id.0 kind)
-        (λ e. known_created (creates (journal_of h)) (own_part h g) (so_far g) id.0 kind may.0)
-        (λ d. known_weaker (creates (journal_of h)) (own_part h g) (so_far g) (creates (journal_of h) + 1) (omega arith)))
+      (λ e. known_created (creates (journal_of h)) (own_part h g) (so_far g) id.0 kind may.0)
+      (λ d. known_weaker (creates (journal_of h)) (own_part h g) (so_far g) (creates (journal_of h) + 1) (omega arith)))
   known_after (Wrote group id at bytes) may =
       known_weaker (creates (journal_of h)) _
       (either (IsKnown (creates (journal_of h))) h g group (wrote (own_part h g) id.0 at bytes) (λ e. known_wrote (creates (journal_of h)) (own_part h g) (so_far g) id.0 at bytes (subst (λ k. (own_part h k).held id.0 ≡ true) e may.held)) (λ d. so_far g))
@@ -54,7 +53,7 @@ module _ (h : List BackEvent) (so_far : AllKnown h) (g : ℕ) where
   known_after (Enqueued b) may =
       known_weaker (creates (journal_of h)) _
       (either (IsKnown (creates (journal_of h))) h g (b.index / 8) (enqueued (own_part h g) b)
-        (λ e. known_enqueued (creates (journal_of h)) (own_part h g) (so_far g) b (subst (λ k. (id : ℕ) → batch_touches b id ≡ true → Rattle.back_core.specs.Needs.MayTouch (own_part h k) b.index b.number id) e may.1.touched)) (λ d. so_far g))
+      (λ e. known_enqueued (creates (journal_of h)) (own_part h g) (so_far g) b (subst (λ k. (id : ℕ) → batch_touches b id ≡ true → Rattle.back_core.specs.Needs.MayTouch (own_part h k) b.index b.number id) e may.1.touched)) (λ d. so_far g))
       (creates (journal_of (h ++ Enqueued b ∷ []))) (creates_later h (Enqueued b))
   known_after Submitted may = known_weaker (creates (journal_of h)) (own_part h g) (so_far g) (creates (journal_of (h ++ Submitted ∷ []))) (creates_later h Submitted)
   known_after (Ran batch node) may = known_weaker (creates (journal_of h)) (own_part h g) (so_far g) (creates (journal_of (h ++ Ran batch node ∷ []))) (creates_later h (Ran batch node))
@@ -223,7 +222,7 @@ touches_own = of_each_run Owns (λ k i b at. absurd (none-some b at)) step
         go k i b touches (inl old) = made_stays h (Enqueued c) run may (b.index / 8) i (so_far k i b old touches)
         go k i b touches (inr new) = made_stays h (Enqueued c) run may (b.index / 8) i
             (subst (λ (x : Batch). IsMade (own_part h (x.index / 8)) i) (sym new.1)
-              (touch_made (creates (journal_of h)) (own_part h (c.index / 8)) (known h run (c.index / 8)) c.index c.number i (may.1.touched i (subst (λ x. batch_touches x i ≡ true) new.1 touches))))
+            (touch_made (creates (journal_of h)) (own_part h (c.index / 8)) (known h run (c.index / 8)) c.index c.number i (may.1.touched i (subst (λ x. batch_touches x i ≡ true) new.1 touches))))
     step h Submitted run may so_far = same h Submitted run may refl so_far
     step h (Ran batch node) run may so_far = same h (Ran batch node) run may refl so_far
     step h (Retired serial) run may so_far = same h (Retired serial) run may refl so_far

@@ -1,7 +1,7 @@
 -- Objects that are held, were let go or wait to be destroyed are live, with the kinds that their groups know.
-use Rattle.std.proofs.Common.{◌≡◌, ◌≢◌, ℕ, zero, suc, ◌+◌, ◌<◌, ◌≤◌, ◌==◌, Bool, true, false, cond, List, [], ◌∷◌, ◌++◌, length, take, refl, sym, ap, ◌∙◌, subst, inl, inr, arith}
-use Rattle.std.specs.Prelude.{◌/◌, ◌⊎◌, ◌||◌, Some, None, Option, slice_get, slice_index}
-use Rattle.std.proofs.lemmas.Bool.{cases_eq, cases_Bool, cond-true, cond-false, eq-eqb, ne_eqb, or_left}
+use Rattle.std.proofs.Common.{◌≡◌, ℕ, zero, suc, ◌+◌, ◌<◌, ◌≤◌, ◌==◌, Bool, true, false, cond, List, [], ◌∷◌, ◌++◌, take, refl, sym, ap, ◌∙◌, subst, inl, inr, arith}
+use Rattle.std.specs.Prelude.{◌⊎◌, Some, None, Option}
+use Rattle.std.proofs.lemmas.Bool.{cases_Bool, cond-true, cond-false, eq-eqb, ne_eqb, or_left}
 use Rattle.std.proofs.lemmas.List.{append-nil, append_assoc}
 use Rattle.std.proofs.lemmas.List.Folds.{list_any-append}
 use Rattle.std.proofs.lemmas.List.Sums.{sum_by-append}
@@ -13,17 +13,17 @@ use Rattle.garbage.specs.declared.entry.Garbage.{Garbage}
 use Rattle.garbage.specs.Collecting.{is_covered}
 use Rattle.vk_device.specs.declared.logged.Logged.{Logged}
 use Rattle.vk_device.specs.declared.logged.Logged.TheVariants as logged
-use Rattle.vk_device.specs.Journal.{kind_of, creates}
+use Rattle.vk_device.specs.Journal.{kind_of}
 use Rattle.vk_device.proofs.Running.{kind_after}
 use Rattle.submit_queue.specs.Histories as queue
 use Rattle.back_core.specs.declared.back_event.BackEvent.{BackEvent}
 use Rattle.back_core.specs.declared.back_event.BackEvent.TheVariants.{Created, Wrote, Enqueued, Submitted, Ran, Retired, Fetched, Gave, Abandoned, Cleaned, Closing, Stopped}
 use Rattle.back_core.specs.History.{queue_event, queue_history, completed, own_part}
-use Rattle.back_core.specs.Run.{garbage_of, garbage_after, without_covered, covered_in, submission, destroys, logged_by, journal_of, MayHappen, WereRead, IsRun}
+use Rattle.back_core.specs.Run.{garbage_of, garbage_after, without_covered, covered_in, submission, destroys, logged_by, journal_of, MayHappen, IsRun}
 use Rattle.back_core.proofs.Sees.{queue_then}
-use Rattle.back_core.proofs.Runs.{of_each_run, garbage_then, journal_nil, journal_then}
+use Rattle.back_core.proofs.Runs.{of_each_run, garbage_then, journal_then}
 use Rattle.back_core.proofs.Numbered.{reach_holds, reach_far}
-use Rattle.back_core.proofs.Made.{none_or_some, IsMade}
+use Rattle.back_core.proofs.Made.{IsMade}
 use Rattle.back_core.proofs.Known.{Makes, known, one_group, made_before}
 use Rattle.back_core.proofs.Piles.{IsIn, in_front, in_back, in_parts, IsAway, left_in, left_or_covered, away_part, away_from_taken, covered_number}
 use Rattle.back_core.proofs.Given.{Gives, given_before, none_before, WasGiven, garbage_given}
@@ -222,8 +222,7 @@ all_live = of_each_run AllLive (λ g i kind made. absurd (none-some kind made)) 
             let before : (own_part h g).given i ≡ None = none_before h (Cleaned read destroyed) run may g i none in
             (away_part i destroyed (is_covered read) (garbage_of h) (no_garbage g i kind made before), inl before)
         away g i kind made (inr has) =
-            let left : IsIn has.0 (without_covered read (destroyed + 1) (garbage_of h)) = subst (IsIn has.0) (garbage_then h (Cleaned read destroyed)) has.1 in
-            (
+            let left : IsIn has.0 (without_covered read (destroyed + 1) (garbage_of h)) = subst (IsIn has.0) (garbage_then h (Cleaned read destroyed)) has.1 in (
               subst (λ j. IsAway j (take destroyed (covered_in h read))) has.2 (away_from_taken read (destroyed + 1) destroyed (garbage_of h) has.0 (garbage_given h run).apart (omega arith) left),
               inr (has.0, left_in read (destroyed + 1) (garbage_of h) has.0 left, has.2),
             )

@@ -1,8 +1,7 @@
 -- What the calls on the device need, in each run.
-use Rattle.std.proofs.Common.{◌≡◌, ℕ, ◌+◌, ◌<◌, ◌≤◌, Bool, true, false, List, [], ◌∷◌, ◌++◌, length, take, refl, sym, ap, ◌∙◌, subst, inl, inr, arith}
+use Rattle.std.proofs.Common.{◌≡◌, ℕ, ◌+◌, ◌<◌, ◌≤◌, true, false, List, ◌++◌, take, refl, sym, ap, ◌∙◌, subst, inl, inr, arith}
 use Rattle.std.specs.Prelude.{◌/◌, ◌⊎◌, Some, None, Option, slice_get, Contains, IsSome}
-use Rattle.std.specs.List.{filter}
-use Rattle.std.proofs.lemmas.Bool.{false_from_ne_true, true≢false, false≢true}
+use Rattle.std.proofs.lemmas.Bool.{false_from_ne_true}
 use Rattle.std.proofs.lemmas.Option.{same_Some, none-some}
 use Rattle.vk_types.specs.declared.handles.Kind.{Kind}
 use Rattle.vk_types.specs.declared.handles.Kind.TheVariants.{Buffer, Image}
@@ -19,11 +18,10 @@ use Rattle.back_core.specs.declared.back_event.BackEvent.{BackEvent}
 use Rattle.back_core.specs.Own.{batch_touches}
 use Rattle.back_core.specs.Needs.{IsFresh, HostMay, MayEnqueue, MayTouch}
 use Rattle.back_core.specs.History.{queue_history, completed, link_of, own_part}
-use Rattle.back_core.specs.Run.{garbage_of, covered_in, destroys, journal_of, MayHappen, MayHappenAll, WereRead, IsRun, IsAcceptable, IsLeftAlone}
+use Rattle.back_core.specs.Run.{garbage_of, covered_in, destroys, journal_of, WereRead, IsRun, IsAcceptable, IsLeftAlone}
 use Rattle.back_core.proofs.Runs.{kept_on, run_parts}
-use Rattle.back_core.proofs.Parts.{pushed}
 use Rattle.back_core.proofs.Going.{next_in_all, numbered, completed_ran, completed_below}
-use Rattle.back_core.proofs.Made.{none_or_some, IsMade, IsKnown, touch_made}
+use Rattle.back_core.proofs.Made.{none_or_some, IsKnown, touch_made}
 use Rattle.back_core.proofs.Known.{known, one_group, touches_own}
 use Rattle.back_core.proofs.Alone.{AllCompleted, left_alone}
 use Rattle.back_core.proofs.Piles.{IsIn, in_at, in_contained, in_filter, apart_filter, away_before, covered_number}
@@ -159,7 +157,7 @@ forgotten h more read item b run were has low may = false_from_ne_true (batch_to
     here : MayTouch (own_part (h ++ more) (b.index / 8)) b.index b.number item.handle.0 → (own_part (h ++ more) (b.index / 8)).given item.handle.0 ≡ Some item.uses
     here touch =
         let own : given.0 ≡ b.index / 8 = one_group (h ++ more) run given.0 (b.index / 8) item.handle.0 ((known (h ++ more) run given.0).given_made item.handle.0 item.uses now.given)
-            (touch_made (creates (journal_of (h ++ more))) (own_part (h ++ more) (b.index / 8)) (known (h ++ more) run (b.index / 8)) b.index b.number item.handle.0 touch) in
+        (touch_made (creates (journal_of (h ++ more))) (own_part (h ++ more) (b.index / 8)) (known (h ++ more) run (b.index / 8)) b.index b.number item.handle.0 touch) in
         subst (λ g. (own_part (h ++ more) g).given item.handle.0 ≡ Some item.uses) own now.given
 
     never_by : (own_part (h ++ more) (b.index / 8)).given item.handle.0 ≡ Some item.uses → MayTouch (own_part (h ++ more) (b.index / 8)) b.index b.number item.handle.0 → ⊥

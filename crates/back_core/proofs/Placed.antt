@@ -1,8 +1,8 @@
 -- Where the nodes of the accepted batches lie in a device's log, and which of them were executed.
-use Rattle.std.proofs.Common.{◌≡◌, ℕ, zero, suc, ◌+◌, ◌<◌, ◌≤◌, Bool, true, false, List, [], ◌∷◌, ◌++◌, length, map, refl, sym, ap, ◌∙◌, subst, inl, inr, arith, length-append}
-use Rattle.std.specs.Prelude.{◌⊎◌, Some, None, Option, slice_get, Contains, option_map}
+use Rattle.std.proofs.Common.{◌≡◌, ℕ, zero, suc, ◌+◌, ◌<◌, Bool, true, false, List, [], ◌∷◌, ◌++◌, length, map, refl, sym, ap, ◌∙◌, subst, inl, inr, arith, length-append}
+use Rattle.std.specs.Prelude.{◌⊎◌, Some, slice_get, Contains, option_map}
 use Rattle.std.proofs.lemmas.Bool.{cases_order}
-use Rattle.std.proofs.lemmas.List.{append-nil, length-map}
+use Rattle.std.proofs.lemmas.List.{append-nil}
 use Rattle.std.proofs.lemmas.List.Elements.{Contains-append_left, Contains-append_cases, Contains-push}
 use Rattle.std.proofs.lemmas.Option.{same_Some, none-some, slice_get_within, slice_get-map}
 use Rattle.vk_types.specs.declared.handles.HandleId.{HandleId}
@@ -13,10 +13,10 @@ use Rattle.vk_model.proofs.Places.{contains_none, contains_cons_cases}
 use Rattle.vk_device.specs.declared.logged.Logged.{Logged}
 use Rattle.vk_device.specs.declared.logged.Logged.TheVariants as logged
 use Rattle.vk_device.specs.Journal.{accepts, accepted}
-use Rattle.vk_device.specs.Order.{entry_items, log_of, executes, order_of, batch_start, place_of, AllRan, IsOfOneQueue}
+use Rattle.vk_device.specs.Order.{entry_items, log_of, executes, order_of, batch_start, place_of, IsOfOneQueue}
 use Rattle.vk_device.proofs.Orders.{log_of-nil, order_of-nil, log_of-push, order_of-push}
-use Rattle.vk_device.proofs.Starts.{accepted-cons, accepted-nil, accepted-push, start_stays, start_next}
-use Rattle.back_core.proofs.Lists.{get_left, get_right, get_parts, get_then, some_at}
+use Rattle.vk_device.proofs.Starts.{accepted-nil, accepted-push, start_stays, start_next}
+use Rattle.back_core.proofs.Lists.{get_left, get_right, get_parts}
 
 -- an item of the log is a write by the host, which was executed, or a node of an accepted batch
 pub data Stands (journal : List Logged) (k : ℕ) (x : Item) : Type 0 where
@@ -132,7 +132,7 @@ pub placed_wrote : (journal : List Logged) (id : HandleId) (at : ℕ) (bytes : L
 placed_wrote journal id at bytes ran has =
     placed_then journal (logged.Wrote id at bytes) ran ran has (λ k i was. was)
     (λ j x is. let o = only_one (HostWrite id.0 at bytes) x j is in
-      by_host id.0 at bytes (sym o.1) (let here : length (log_of journal) ≡ length (log_of journal) + j = omega (arith, o.0) in subst (Contains (order_of next)) here done))
+    by_host id.0 at bytes (sym o.1) (let here : length (log_of journal) ≡ length (log_of journal) + j = omega (arith, o.0) in subst (Contains (order_of next)) here done))
     (λ j b at node n is. absurd (none-some b at))
     (λ k c. host_did id.0 at bytes (ap (slice_get (log_of next)) (sym (one_place (length (log_of journal)) k c)) ∙ there))
     (λ batch node was. inl was)
@@ -187,12 +187,12 @@ module _ (journal : List Logged) (b : Batch) (one : IsOfOneQueue b) where
   placed_submitted ran has =
       placed_then journal (logged.Submitted b) ran ran has (λ k i was. was)
       (λ j x at. let m = mapped (Command 0) b.nodes j x (subst (λ l. slice_get l j ≡ Some x) nodes_only at) in
-        in_batch (length (accepted journal)) j b m.0 last_accepted m.1 m.2 (ap (λ n. n + j) (sym starts)))
+      in_batch (length (accepted journal)) j b m.0 last_accepted m.1 m.2 (ap (λ n. n + j) (sym starts)))
       (λ j c at node n is. let o = only_one b c j at in
-        let here : length (accepted journal) + j ≡ length (accepted journal) = omega (arith, o.0) in
-        ap (λ m. slice_get (log_of (journal ++ logged.Submitted b ∷ [])) (batch_start (journal ++ logged.Submitted b ∷ []) m + node)) here
-        ∙ ap (λ m. slice_get (log_of (journal ++ logged.Submitted b ∷ [])) (m + node)) starts
-        ∙ there node n (subst (λ (d : Batch). slice_get d.nodes node ≡ Some n) (sym o.1) is))
+      let here : length (accepted journal) + j ≡ length (accepted journal) = omega (arith, o.0) in
+      ap (λ m. slice_get (log_of (journal ++ logged.Submitted b ∷ [])) (batch_start (journal ++ logged.Submitted b ∷ []) m + node)) here
+      ∙ ap (λ m. slice_get (log_of (journal ++ logged.Submitted b ∷ [])) (m + node)) starts
+      ∙ there node n (subst (λ (d : Batch). slice_get d.nodes node ≡ Some n) (sym o.1) is))
       (λ k c. absurd (contains_none k c))
       (λ batch node was. inl was)
 
@@ -221,5 +221,5 @@ placed_ran journal batch node b ran ran' has at lt still now only =
     runs k i (inr new) = inr (
       subst (λ m. m < length (accepted (journal ++ logged.Ran batch node ∷ []))) new.0 (accepted_within journal (logged.Ran batch node) batch inside),
       subst (λ m. Contains (order_of (journal ++ logged.Ran batch node ∷ [])) (place_of (journal ++ logged.Ran batch node ∷ []) k m)) new.1
-        (subst (λ m. Contains (order_of (journal ++ logged.Ran batch node ∷ [])) (place_of (journal ++ logged.Ran batch node ∷ []) m node)) new.0 done),
+          (subst (λ m. Contains (order_of (journal ++ logged.Ran batch node ∷ [])) (place_of (journal ++ logged.Ran batch node ∷ []) m node)) new.0 done),
     )

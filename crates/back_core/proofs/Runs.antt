@@ -2,7 +2,6 @@
 use Rattle.std.proofs.Common.{◌≡◌, List, [], ◌∷◌, ◌++◌, sym, ap, ◌∙◌, subst, refl}
 use Rattle.std.proofs.lemmas.List.{append-nil, append_assoc}
 use Rattle.std.proofs.lemmas.List.Sums.{fold_push}
-use Rattle.vk_device.specs.declared.logged.Logged.{Logged}
 use Rattle.back_core.specs.declared.back_event.BackEvent.{BackEvent}
 use Rattle.back_core.specs.Run.{garbage_of, garbage_after, logged_by, journal_from, journal_of, MayHappen, MayHappenAll, IsRun}
 

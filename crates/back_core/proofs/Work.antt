@@ -1,8 +1,8 @@
 -- The work that is left falls.
 use Rattle.std.proofs.Common.{◌≡◌, ℕ, zero, suc, ◌+◌, ◌-◌, ◌<◌, ◌≤◌, Bool, true, false, cond, List, [], ◌∷◌, ◌++◌, length, refl, sym, ap, ◌∙◌, subst, inl, inr, arith}
-use Rattle.std.specs.Prelude.{◌⊎◌, ◌||◌, ◌==◌, Some, slice_get}
-use Rattle.std.proofs.lemmas.Bool.{cases_Bool, cases_eq, and_from, eq-eqb, or_left, or_right, false≢true}
-use Rattle.std.proofs.lemmas.Option.{same_Some, none-some, slice_get_within}
+use Rattle.std.specs.Prelude.{◌⊎◌, ◌==◌, Some, slice_get}
+use Rattle.std.proofs.lemmas.Bool.{cases_Bool, cases_eq, and_from, eq-eqb, or_left, or_right}
+use Rattle.std.proofs.lemmas.Option.{same_Some, none-some}
 use Rattle.vk_types.specs.declared.batches.Batch.{Batch}
 use Rattle.submit_queue.specs.Histories as queue
 use Rattle.back_core.specs.declared.back_event.BackEvent.{BackEvent}
@@ -85,8 +85,8 @@ module _ (q : List queue.Event) where
       = work_is (queue.accepted (q ++ queue.Ran k i ∷ [])) (queue.retired (q ++ queue.Ran k i ∷ [])) (batches_stay q (queue.Ran k i) refl) refl in
       let less : all_items_left (queue.has_run (q ++ queue.Ran k i ∷ [])) 0 (queue.batches q) < all_items_left (queue.has_run q) 0 (queue.batches q)
       = all_less (queue.has_run q) (queue.has_run (q ++ queue.Ran k i ∷ [])) (λ l j was. ran_next q (queue.Ran k i) l j ∙ or_left (queue.has_run q l j) (queue.is_run l j (queue.Ran k i)) was)
-          (queue.batches q) 0 k i k may.what (omega arith) may.at may.within may.not_before
-          (ran_next q (queue.Ran k i) k i ∙ or_right (queue.has_run q k i) _ (and_from (k == k) (i == i) (eq-eqb k k refl) (eq-eqb i i refl))) in
+      (queue.batches q) 0 k i k may.what (omega arith) may.at may.within may.not_before
+      (ran_next q (queue.Ran k i) k i ∙ or_right (queue.has_run q k i) _ (and_from (k == k) (i == i) (eq-eqb k k refl) (eq-eqb i i refl))) in
       omega (arith, is, accepted_next q (queue.Ran k i), retired_next q (queue.Ran k i), less)
 
 next_work : (h : List BackEvent) (e : BackEvent) (q : queue.Event) → Rattle.back_core.specs.History.queue_event e ≡ q ∷ [] → work_in (queue_history h ++ q ∷ []) < work_left h → work_left (h ++ e ∷ []) < work_left h
