@@ -34,7 +34,7 @@ after_keeps l (Retired serial) = refl
 after_keeps l (Fetched group id at bytes) = own_keeps (group == l.group) l _ refl
 after_keeps l (Gave group id uses) = own_keeps (group == l.group) l _ refl
 after_keeps l (Abandoned group id) = own_keeps (group == l.group) l _ refl
-after_keeps l (Cleaned read) = refl
+after_keeps l (Cleaned read destroyed) = refl
 after_keeps l Closing = refl
 after_keeps l (Stopped stop) = refl
 
@@ -107,7 +107,7 @@ module _ (stays : Stays) where
   not_told h g (Fetched group id at bytes) other = others_then h g (Fetched group id at bytes) group _ refl other (completed_same h (Fetched group id at bytes) refl)
   not_told h g (Gave group id uses) other = others_then h g (Gave group id uses) group _ refl other (completed_same h (Gave group id uses) refl)
   not_told h g (Abandoned group id) other = others_then h g (Abandoned group id) group _ refl other (completed_same h (Abandoned group id) refl)
-  not_told h g (Cleaned read) other = link_then h g (Cleaned read) (own_part h g) (completed h) refl (completed_same h (Cleaned read) refl)
+  not_told h g (Cleaned read destroyed) other = link_then h g (Cleaned read destroyed) (own_part h g) (completed h) refl (completed_same h (Cleaned read destroyed) refl)
   not_told h g Closing other = link_then h g Closing (own_part h g) (completed h) refl (completed_same h Closing refl)
   not_told h g (Stopped stop) other = link_then h g (Stopped stop) (own_part h g) (completed h) refl (completed_same h (Stopped stop) refl)
 

@@ -17,7 +17,7 @@ queue_event (Retired serial) = queue.Retired serial ∷ []
 queue_event (Fetched group id at bytes) = []
 queue_event (Gave group id uses) = []
 queue_event (Abandoned group id) = []
-queue_event (Cleaned read) = []
+queue_event (Cleaned read destroyed) = []
 queue_event Closing = []
 queue_event (Stopped stop) = []
 
@@ -56,7 +56,7 @@ link_after link (Retired serial) = link
 link_after link (Fetched group id at bytes) = if_own link group (fetched link id.0 at bytes)
 link_after link (Gave group id uses) = if_own link group (gave link id.0 uses)
 link_after link (Abandoned group id) = if_own link group (abandoned link id.0)
-link_after link (Cleaned read) = link
+link_after link (Cleaned read destroyed) = link
 link_after link Closing = link
 link_after link (Stopped stop) = link
 
@@ -79,6 +79,6 @@ IsOfOthers (Retired serial) g = ⊥
 IsOfOthers (Fetched group id at bytes) g = group ≢ g
 IsOfOthers (Gave group id uses) g = group ≢ g
 IsOfOthers (Abandoned group id) g = group ≢ g
-IsOfOthers (Cleaned read) g = Unit {0}
+IsOfOthers (Cleaned read destroyed) g = Unit {0}
 IsOfOthers Closing g = Unit {0}
 IsOfOthers (Stopped stop) g = Unit {0}

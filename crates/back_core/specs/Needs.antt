@@ -4,6 +4,7 @@ use Rattle.vk_types.specs.declared.batches.Batch.{Batch}
 use Rattle.vk_types.specs.declared.batches.QueueSerial.{QueueSerial}
 use Rattle.vk_model.specs.Log.{commands, NoneEmpty, IsSound}
 use Rattle.vk_model.specs.Fitting.{HasRange, NodeFits}
+use Rattle.vk_device.specs.Order.{IsOfOneQueue}
 use Rattle.resource_use.specs.Uses.{number_of}
 use Rattle.submit_queue.specs.Histories.{last_number}
 use Rattle.back_core.specs.Own.{log_of, batches_of, next_number, last_use, batch_touches, own_touches}
@@ -33,6 +34,7 @@ MayTouch s index number id = (s.held id ≡ true) ⊎ ((uses : List QueueSerial)
 
 -- a batch that may be handed to the back
 pub record MayEnqueue (s : Link) (batch : Batch) : Type 0 where
+  pub one_queue : IsOfOneQueue batch
   pub few : length batch.nodes < 4294967294
   pub sound : IsSound (log_of s.mine ++ commands 0 batch.nodes)
   pub none_empty : All NoneEmpty batch.nodes

@@ -45,9 +45,11 @@ pub enum BackEvent {
         group: u8,
         id: HandleId,
     },
-    /// A cleanup that read these numbers destroyed something.
+    /// A cleanup that read these numbers destroyed so many objects. Where the device was lost before all that these
+    /// numbers cover were destroyed, the next one was spent.
     Cleaned {
         read: [u64; 64],
+        destroyed: u64,
     },
     Closing,
     Stopped {
