@@ -32,11 +32,23 @@ same_object (Renderbuffer a) (Buffer b) = false
 same_object (Renderbuffer a) (Texture b) = false
 same_object (Renderbuffer a) (Renderbuffer b) = a == b
 
--- What waits on an object: a node on it that was not recorded. An update has a staging buffer of its own, from which the
--- node copies; a clear has none.
+-- What waits on an object: a node on it that was not recorded. An update copies from a staging buffer of its own; a clear has
+-- none.
 pub record Waiting : Type 0 where
   pub staging : Option ℕ
   pub node : Node
+
+-- The operation writes the object alone, and reads nothing but the staging buffer.
+abbrev pub IsUpdate : Option ℕ → ℕ → Op → Type 0
+IsUpdate staging handle (op.CopyBuffer src src_at dst dst_at size) = (staging ≡ Some src.0) × (dst.0 ≡ handle)
+IsUpdate staging handle (op.BufferToImage src src_at stride texel_size dst rect) = (staging ≡ Some src.0) × (dst.0 ≡ handle)
+IsUpdate staging handle (op.ImageToBuffer src rect dst dst_at stride texel_size expand) = ⊥
+IsUpdate staging handle (op.CopyImage src src_x src_y dst rect) = ⊥
+IsUpdate staging handle (op.BlitImage src dst coords clip) = ⊥
+IsUpdate staging handle (op.ClearImage image rect texel) = (staging ≡ None) × (image.0 ≡ handle)
+IsUpdate staging handle (op.FillBuffer dst dst_at size byte) = ⊥
+IsUpdate staging handle (op.PassPart _ _ image _ _ _) = ⊥
+IsUpdate staging handle (op.Barrier b) = ⊥
 
 -- a handle's kind, and for each index the number of the last batch that uses it, or 0
 pub record Slot : Type 0 where

@@ -2,14 +2,16 @@
 use Rattle.std.specs.Prelude.{◌≡◌, ◌≢◌, ℕ, ◌+◌, ◌<◌, ◌≤◌, ◌⊎◌, true, false, if◌then◌else◌, Option, Some, None, IfSome, IsSome, List, [], length, slice_get, All}
 use Rattle.vk_types.specs.declared.handles.Kind.{Kind}
 use Rattle.vk_types.specs.declared.batches.QueueSerial.{QueueSerial}
-use Rattle.vk_model.specs.Log.{IsSound, NoneEmpty, NoConflict, touches_object}
+use Rattle.vk_types.specs.declared.ops.Node.{Node}
+use Rattle.vk_types.specs.Touches.{barrier_of}
+use Rattle.vk_model.specs.Log.{Item, Command, IsSound, NoneEmpty, NoConflict, NamesAll}
 use Rattle.vk_model.specs.Fitting.{NodeFits}
 use Rattle.resource_use.specs.Uses.{number_of}
 use Rattle.submit_queue.specs.Histories.{last_number}
 use Rattle.back_core.specs.Own.{log_of, batches_of, last_use, IsReadable}
 use Rattle.back_core.specs.Link.{Link}
 use Rattle.back_core.specs.Needs.{IsOfGroup, MayTouch}
-use Rattle.front_model.specs.Face.{Object, Waiting, Slot, Stored, Face, Outline, outline_at, whole_log, view, nodes_touch}
+use Rattle.front_model.specs.Face.{Object, Waiting, Slot, Stored, Face, Outline, outline_at, whole_log, view, nodes_touch, IsUpdate}
 
 -- the handles that are in no object, since a call is making them or is about to give them away
 abbrev pub Hands : Type 0
@@ -42,12 +44,12 @@ pub record StagingStands (f : Face) (s : Link) (owner : ℕ → Owner) (o : Obje
   pub owned : owner id ≡ Staging o place
   pub unused : (index : ℕ) → use_of f s id index ≡ 0
 
--- what waits fits its object, and touches nothing else but its staging buffer
+-- what waits is an update of its object, and fits it
 pub record WaitingStands (f : Face) (s : Link) (owner : ℕ → Owner) (o : Object) (handle place : ℕ) (w : Waiting) : Type 0 where
   pub staging : IfSome w.staging (StagingStands f s owner o place)
   pub fits : NodeFits s.kinds w.node
   pub none_empty : NoneEmpty w.node
-  pub only : (id : ℕ) → touches_object w.node id ≡ true → (id ≡ handle) ⊎ (w.staging ≡ Some id)
+  pub update : IsUpdate w.staging handle w.node.op
 
 pub record StoredStands (f : Face) (s : Link) (owner : ℕ → Owner) (o : Object) (b : Stored) : Type 0 where
   pub slot : SlotStands f s b.handle b.slot
@@ -72,10 +74,15 @@ IsPastUse f s id index number =
     (number ≤ last_number (batches_of s.mine) index)
     ⊎ (IsOfGroup f.group index × (number ≡ f.last index + 1) × (nodes_touch (f.pending index) id ≡ true))
 
+-- each barrier names all kinds of access on both sides
+abbrev pub HaveFullBarriers : List Item → Type 0
+HaveFullBarriers log = (k queue : ℕ) (n : Node) → slice_get log k ≡ Some (Command queue n) → IfSome (barrier_of n) NamesAll
+
 -- Everything but that the contents are the right ones.
 pub record Holds (f : Face) (hands : Hands) (s : Link) : Type 0 where
   -- the log: its nodes are in order, and nodes of two contexts that are pending do not conflict
   pub sound : IsSound (whole_log f s)
+  pub barriers : HaveFullBarriers (whole_log f s)
   pub apart : (i j : ℕ) → i ≢ j → NoConflict (f.pending i) (f.pending j)
   pub fits : (index : ℕ) → All (NodeFits s.kinds) (f.pending index)
   pub none_empty : (index : ℕ) → All NoneEmpty (f.pending index)

@@ -11,7 +11,7 @@ use Rattle.vk_types.specs.declared.batches.Batch.{Batch}
 use Rattle.vk_types.specs.declared.batches.QueueSerial.{QueueSerial}
 use Rattle.vk_types.specs.Accesses.{all_access}
 use Rattle.vk_types.specs.Touches.{touches, barrier_of}
-use Rattle.vk_model.specs.Log.{commands, IsSound, NoneEmpty, NoConflict}
+use Rattle.vk_model.specs.Log.{commands, IsSound, NoneEmpty, NoConflict, NamesAll}
 use Rattle.vk_model.specs.Fitting.{NodeFits}
 use Rattle.vk_device.specs.Order.{IsOfOneQueue}
 use Rattle.resource_use.specs.Uses.{number_of}
@@ -57,6 +57,7 @@ IsTarget f hands id = IsSome (hands id) ⊎ ((o : Object) × (b : Stored) × (f.
 pub record MayRecord (f : Face) (hands : Hands) (s : Link) (index : ℕ) (nodes : List Node) : Type 0 where
   pub of_group : IsOfGroup f.group index
   pub sound : IsSound (whole_log f s ++ commands 0 nodes)
+  pub barriers : All (λ n. IfSome (barrier_of n) NamesAll) nodes
   pub fits : All (NodeFits s.kinds) nodes
   pub none_empty : All NoneEmpty nodes
   pub few : length (f.pending index) + length nodes < 4294967294
@@ -80,9 +81,9 @@ HasNoLayout n = All (λ t. t.layout ≡ None) (touches n)
 -- the batch is the next one of the index, with what is pending there
 pub record IsNextBatch (f : Face) (index : ℕ) (batch : Batch) : Type 0 where
   pub one_queue : IsOfOneQueue batch
-  pub index : batch.index ≡ index
-  pub number : batch.number ≡ f.last index + 1
-  pub nodes : batch.nodes ≡ f.pending index
+  pub of_index : batch.index ≡ index
+  pub next : batch.number ≡ f.last index + 1
+  pub all : batch.nodes ≡ f.pending index
 
 abbrev pub flushed : Face → ℕ → Face
 flushed f index = record f { pending = put f.pending index []; last = put f.last index (f.last index + 1) }
@@ -108,8 +109,3 @@ without_place (suc place) (x ∷ xs) = x ∷ without_place place xs
 -- what waited at a place was taken out
 abbrev pub taken_from : Stored → ℕ → Stored
 taken_from b place = record b { waiting = without_place place b.waiting }
-
--- the hand of a staging buffer, which nothing used so far
-abbrev pub with_hand : Hands → Option ℕ → Kind → Hands
-with_hand hands None kind = hands
-with_hand hands (Some id) kind = put hands id (Some (fresh_slot kind))
