@@ -6,7 +6,6 @@ use Rattle.std.specs.List.{list_any, flat_map}
 use Rattle.std.proofs.lemmas.Bool.{and_parts, or_parts, or_from, or_left, or_right, both_ways, ne_eqb}
 use Rattle.std.proofs.lemmas.List.{map-append}
 use Rattle.std.proofs.lemmas.List.Elements.{All-head, All-tail}
-use Rattle.std.proofs.lemmas.List.Folds.{list_any-append}
 use Rattle.vk_types.specs.declared.handles.Kind.{Kind}
 use Rattle.vk_types.specs.declared.ops.Op.{Op}
 use Rattle.vk_types.specs.declared.ops.Op.TheVariants.{CopyBuffer, BufferToImage, ImageToBuffer, CopyImage, BlitImage, ClearImage, FillBuffer, PassPart}
@@ -21,6 +20,7 @@ use Rattle.vk_model.proofs.Local.{found_same}
 use Rattle.vk_model.proofs.Order.{after_all-append, after_untouched}
 use Rattle.vk_model.proofs.SameKinds.{apply_same_kinds}
 use Rattle.front_model.specs.Face.{nodes_touch}
+use Rattle.front_model.proofs.Base.{nodes_touch-append}
 
 -- Lists of nodes
 
@@ -36,13 +36,10 @@ command_touches q n id = any-map (λ r. eqb r.id id) (node_range n) (touches n)
 pub nodes-append : (kinds : ℕ → Kind) (xs ys : List Node) (c : Contents) → after_all kinds (commands 0 (xs ++ ys)) c ≡ after_all kinds (commands 0 ys) (after_all kinds (commands 0 xs) c)
 nodes-append kinds xs ys c = ap (λ l. after_all kinds l c) (map-append (Command 0) xs ys) ∙ after_all-append kinds (commands 0 xs) (commands 0 ys) c
 
-pub touch-append : (xs ys : List Node) (id : ℕ) → nodes_touch (xs ++ ys) id ≡ (nodes_touch xs id || nodes_touch ys id)
-touch-append xs ys id = list_any-append (λ n. touches_object n id) xs ys
-
 -- nodes of several lists, of which none touches an object
 pub none_touches : (lists : ℕ → List Node) (places : List ℕ) (id : ℕ) → ((i : ℕ) → nodes_touch (lists i) id ≡ false) → nodes_touch (flat_map lists places) id ≡ false
 none_touches lists [] id each = refl
-none_touches lists (i ∷ places) id each = touch-append (lists i) (flat_map lists places) id ∙ or_from (nodes_touch (lists i) id) (nodes_touch (flat_map lists places) id) (each i) (none_touches lists places id each)
+none_touches lists (i ∷ places) id each = nodes_touch-append (lists i) (flat_map lists places) id ∙ or_from (nodes_touch (lists i) id) (nodes_touch (flat_map lists places) id) (each i) (none_touches lists places id each)
 
 -- Objects that are not touched
 

@@ -1,2 +1,6 @@
+pub mod Base
 pub mod Contents
 pub mod Barriers
+pub mod OrderedViews
+pub mod Updates
+pub mod Views
