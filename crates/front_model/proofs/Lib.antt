@@ -3,4 +3,5 @@ pub mod Contents
 pub mod Barriers
 pub mod OrderedViews
 pub mod Updates
-pub mod Views
+pub mod Shown
+pub mod LinkViews

@@ -1,5 +1,18 @@
 use Rattle.front_model.proofs.OrderedViews.{goes_first, goes_last}
+use Rattle.front_model.proofs.LinkViews.{view_created, view_wrote_hand, view_wrote, view_fetched, view_learns, view_enqueued}
+use Rattle.front_model.proofs.Shown.{view_with}
+use Rattle.front_model.proofs.Updates.{left_out}
+use Rattle.std.proofs.Common.{refl}
 use Rattle.front_model.proofs.view_laws.link_steps_show.Goals as goal
 
 pub returns : goal.returns
-returns c = ?
+returns c = record {
+  starts = λ s group. refl;
+  creates = view_created;
+  writes_hand = view_wrote_hand;
+  writes = view_wrote;
+  fetches = view_fetched;
+  learns = view_learns;
+  enqueues = view_enqueued;
+  gives = λ f s id uses. refl;
+}
