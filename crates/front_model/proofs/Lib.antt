@@ -5,3 +5,4 @@ pub mod OrderedViews
 pub mod Updates
 pub mod Shown
 pub mod LinkViews
+pub mod FrontViews

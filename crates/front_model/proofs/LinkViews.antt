@@ -1,35 +1,33 @@
 -- What the link's steps show: nothing else, but where the host writes into the store of an object.
 use mathlib.Core.Path.{fun_ext}
-use Rattle.std.proofs.Common.{◌≡◌, ◌≢◌, ℕ, ◌+◌, ◌-◌, ◌<◌, ◌≤◌, List, [], ◌∷◌, ◌++◌, length, Bool, true, false, cond, eqb, refl, sym, ◌∙◌, ap, subst, arith, inl, inr}
-use Rattle.std.specs.Prelude.{◌⊎◌, ◌||◌, ◌&&◌, nat_le, nat_lt, slice_index, Option, Some, None, All, unwrap_or}
-use Rattle.std.specs.List.{flat_map}
-use Rattle.std.proofs.lemmas.Bool.{cases_lt, or_from, ne_eqb, eq-eqb, lt-ltb, le-ltb, and_from, and_right, or_left, cond-false}
+use Rattle.std.proofs.Common.{◌≡◌, ◌≢◌, ℕ, ◌+◌, ◌-◌, ◌<◌, ◌≤◌, List, [], ◌∷◌, ◌++◌, length, true, false, cond, eqb, refl, sym, ◌∙◌, ap, arith, inl, inr}
+use Rattle.std.specs.Prelude.{◌⊎◌, ◌&&◌, nat_le, nat_lt, slice_index, Option, Some, None, All, unwrap_or}
+use Rattle.std.proofs.lemmas.Bool.{cases_lt, or_from, ne_eqb, le-ltb, and_right, or_left, cond-false}
 use Rattle.std.proofs.lemmas.List.{append-nil}
 use Rattle.std.proofs.lemmas.List.Concat.{flat_map-append}
 use Rattle.std.proofs.lemmas.List.Elements.{All-head, All-tail}
 use Rattle.vk_types.specs.declared.handles.Kind.{Kind}
 use Rattle.vk_types.specs.declared.handles.Kind.TheVariants.{Buffer}
 use Rattle.vk_types.specs.declared.batches.Batch.{Batch}
-use Rattle.vk_types.specs.declared.batches.QueueSerial.{QueueSerial}
 use Rattle.vk_types.specs.declared.ops.Node.{Node}
 use Rattle.vk_types.specs.Touches.{the_end}
 use Rattle.vk_model.specs.Cells.{Contents}
-use Rattle.vk_model.specs.Log.{Item, Command, HostWrite, commands, Range}
-use Rattle.vk_model.specs.Meaning.{nothing, covers, is_written, is_touched, apply, after_all, eval}
+use Rattle.vk_model.specs.Log.{Item, HostWrite, commands}
+use Rattle.vk_model.specs.Meaning.{nothing, covers, is_touched, apply, after_all, eval}
 use Rattle.vk_model.proofs.Local.{after_written, after_unwritten}
 use Rattle.vk_model.proofs.Copies.{covered_from, found_at}
 use Rattle.vk_model.proofs.Order.{after_all-append, after_untouched}
 use Rattle.back_core.specs.Own.{Own, HostWrote, Enqueued, HostRead, log_by, log_of, own_touches}
-use Rattle.back_core.specs.Link.{Link, put, kinds_of, contents_of, created, wrote, enqueued, fetched, gave}
+use Rattle.back_core.specs.Link.{Link, kinds_of, contents_of, created, wrote, enqueued, fetched}
 use Rattle.back_core.specs.Needs.{IsOfGroup, IsFresh}
 use Rattle.back_core.specs.Answers.{Learns}
-use Rattle.front_model.specs.Face.{Object, Waiting, Slot, Stored, Face, put_object, indexes_of, in_order, recorded, waits, content_in, view, nodes_touch}
-use Rattle.front_model.specs.Stands.{InHand, StoredStands, Hands, Holds}
+use Rattle.front_model.specs.Face.{Object, Slot, Stored, Face, put_object, indexes_of, in_order, recorded, waits, content_in, view, nodes_touch}
+use Rattle.front_model.specs.Stands.{Hands, Holds}
 use Rattle.front_model.specs.Steps.{IsNextBatch, flushed}
 use Rattle.front_model.proofs.Base.{put-other, cases_object, put_object-same, put_object-other}
 use Rattle.front_model.proofs.Contents.{AlikeOn, none_touches, nodes_leave, nodes_alike_but, nodes_same_kinds, leaves_unmade, all_leave_unmade}
 use Rattle.front_model.proofs.OrderedViews.{of_group, goes_first}
-use Rattle.front_model.proofs.Updates.{in_part, other_object}
+use Rattle.front_model.proofs.Updates.{in_part}
 use Rattle.front_model.proofs.Shown.{none_touching, in_hand_apart, store_apart, shown_but, content_clear}
 
 -- Logs

@@ -3,19 +3,16 @@ use Rattle.std.proofs.Common.{◌≡◌, ◌≢◌, ℕ, zero, suc, ◌+◌, ◌
 use Rattle.std.specs.Prelude.{◌⊎◌}
 use Rattle.std.specs.List.{flat_map, range_with_len, AllByRecursion}
 use Rattle.std.proofs.lemmas.Bool.{cases_eq}
-use Rattle.std.proofs.lemmas.List.{append-nil}
 use Rattle.std.proofs.lemmas.List.Concat.{flat_map-append}
 use Rattle.vk_types.specs.declared.handles.Kind.{Kind}
 use Rattle.vk_types.specs.declared.ops.Node.{Node}
 use Rattle.vk_model.specs.Cells.{Contents}
 use Rattle.vk_model.specs.Log.{Command, commands, conflict, NoConflict}
-use Rattle.vk_model.specs.Meaning.{nothing, apply, after_all, eval}
+use Rattle.vk_model.specs.Meaning.{apply, after_all}
 use Rattle.vk_model.proofs.Local.{apart_by_ranges, after_commutes}
-use Rattle.vk_model.proofs.Order.{after_all-append}
-use Rattle.back_core.specs.Own.{log_of}
-use Rattle.back_core.specs.Link.{Link, put, kinds_of, contents_of}
+use Rattle.back_core.specs.Link.{put}
 use Rattle.back_core.specs.Needs.{IsOfGroup}
-use Rattle.front_model.specs.Face.{Face, indexes_of, in_order, recorded}
+use Rattle.front_model.specs.Face.{indexes_of}
 use Rattle.front_model.proofs.Base.{put-same, put-other}
 use Rattle.front_model.proofs.Contents.{nodes-append}
 

@@ -1,9 +1,9 @@
 -- What an update does: it writes its object alone, cell by cell, and looks at nothing but its staging buffer.
 use mathlib.Core.Path.{fun_ext}
-use Rattle.std.proofs.Common.{◌≡◌, ◌≢◌, ℕ, zero, suc, ◌+◌, ◌-◌, ◌<◌, ◌≤◌, List, [], ◌∷◌, map, Bool, true, false, cond, eqb, refl, sym, ◌∙◌, ap, subst, arith, inl, inr}
-use Rattle.std.specs.Prelude.{◌⊎◌, ◌&&◌, ◌||◌, nat_lt, nat_le, min, Option, Some, None, slice_get}
+use Rattle.std.proofs.Common.{◌≡◌, ◌≢◌, ℕ, zero, suc, ◌+◌, ◌-◌, ◌<◌, ◌≤◌, List, [], ◌∷◌, map, Bool, true, false, cond, eqb, refl, sym, ◌∙◌, ap, arith, inl, inr}
+use Rattle.std.specs.Prelude.{◌⊎◌, ◌&&◌, ◌||◌, nat_lt, nat_le, min, Option, Some, slice_get}
 use Rattle.std.specs.List.{list_any}
-use Rattle.std.proofs.lemmas.Bool.{cases_Bool, cases_lt, or_cases, or_from, and_parts, and_from, and_left, and_right, and_cases, eqb-true, ne_eqb, leb-true, ltb-true, leb-false, ltb-false, lt-leb, le-ltb, cond-true, cond-false}
+use Rattle.std.proofs.lemmas.Bool.{or_cases, or_from, and_parts, and_left, and_right, and_cases, eqb-true, ne_eqb, leb-true, ltb-true, leb-false, ltb-false, lt-leb, le-ltb}
 use Rattle.cells.specs.Contents.{UNDEFINED}
 use Rattle.vk_types.specs.declared.handles.HandleId.{HandleId}
 use Rattle.vk_types.specs.declared.handles.Kind.{Kind}

@@ -1,7 +1,4 @@
-use Rattle.front_model.proofs.OrderedViews.{goes_first, goes_last}
 use Rattle.front_model.proofs.LinkViews.{view_created, view_wrote_hand, view_wrote, view_fetched, view_learns, view_enqueued}
-use Rattle.front_model.proofs.Shown.{view_with}
-use Rattle.front_model.proofs.Updates.{left_out}
 use Rattle.std.proofs.Common.{refl}
 use Rattle.front_model.proofs.view_laws.link_steps_show.Goals as goal
 
