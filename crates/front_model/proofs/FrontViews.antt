@@ -22,7 +22,7 @@ use Rattle.front_model.proofs.Base.{cases_object, put_object-same, put_object-ot
 use Rattle.front_model.proofs.Barriers.{barrier_shows}
 use Rattle.front_model.proofs.Contents.{nodes-append, nodes_leave, nodes_alike}
 use Rattle.front_model.proofs.OrderedViews.{of_group, goes_last}
-use Rattle.front_model.proofs.Updates.{in_part, copy_cell, copy_leaves, update_touches, update_leaves, nodes_of, left_out}
+use Rattle.front_model.proofs.Updates.{in_part, copy_node, copy_cell, copy_leaves, update_touches, update_leaves, nodes_of, left_out}
 use Rattle.front_model.proofs.Shown.{Touching, touching, none_touching, store_apart, shown_but, updates_of, content_clear, content_noted, view_with}
 use Rattle.front_model.proofs.LinkViews.{then_pending}
 
@@ -73,40 +73,46 @@ pub shown_fenced : (f : Face) (hands : Hands) (s : Link) (index : ℕ) (n : Node
 shown_fenced f hands s index n h may o = shown_nodes f hands s index (fenced n) h may o ∙ ap (λ c. content_in (kinds_of s) c (f.objects o)) (fenced_shows (kinds_of s) n (recorded f s))
 
 pub view_copied : (f : Face) (hands : Hands) (s : Link) (index : ℕ) (o q : Object) (b c : Stored) (src dst : HandleId) (src_at dst_at size : ℕ) → Holds f hands s →
-    MayRecord f hands s index (fenced (record { op = CopyBuffer src src_at dst dst_at size })) →
+    MayRecord f hands s index (fenced (copy_node src src_at dst dst_at size)) →
     f.objects o ≡ Some b → b.waiting ≡ [] → b.handle ≡ src.0 → f.objects q ≡ Some c → c.waiting ≡ [] → c.handle ≡ dst.0 →
     src_at + size ≤ the_end → dst_at + size ≤ the_end →
-    view (with_nodes f index (fenced (record { op = CopyBuffer src src_at dst dst_at size }))) s
+    view (with_nodes f index (fenced (copy_node src src_at dst dst_at size))) s
     ≡ put_object (view f s) q (λ i. cond (nat_le dst_at i && nat_lt i (dst_at + size)) (view f s o (src_at + (i - dst_at))) (view f s q i))
 view_copied f hands s index o q b c src dst src_at dst_at size h may at_o clear_o is_src at_q clear_q is_dst src_inside dst_inside =
-    fun_ext (λ p. shown_fenced f hands s index (record { op = CopyBuffer src src_at dst dst_at size }) h may p ∙ go p (cases_object p q))
+    fun_ext (λ p. shown_fenced f hands s index (copy_node src src_at dst dst_at size) h may p ∙ go p (cases_object p q))
   where
+    copied : Contents
+    copied = apply (kinds_of s) (Command 0 (copy_node src src_at dst dst_at size)) (recorded f s)
+
+    new : ℕ → ℕ
+    new i = cond (nat_le dst_at i && nat_lt i (dst_at + size)) (view f s o (src_at + (i - dst_at))) (view f s q i)
+
     source : view f s o ≡ recorded f s src.0
     source = ap (content_in (kinds_of s) (recorded f s)) at_o ∙ content_clear (kinds_of s) (recorded f s) b clear_o ∙ ap (recorded f s) is_src
 
     target : (d : Contents) → content_in (kinds_of s) d (f.objects q) ≡ d dst.0
     target d = ap (content_in (kinds_of s) d) at_q ∙ content_clear (kinds_of s) d c clear_q ∙ ap d is_dst
 
-    cell : (i : ℕ) → apply (kinds_of s) (Command 0 (record { op = CopyBuffer src src_at dst dst_at size })) (recorded f s) dst.0 i ≡ cond (in_part dst_at size i) (view f s o (src_at + (i - dst_at))) (view f s q i)
+    cell : (i : ℕ) → copied dst.0 i ≡ cond (in_part dst_at size i) (view f s o (src_at + (i - dst_at))) (view f s q i)
     cell i =
         copy_cell (kinds_of s) src src_at dst dst_at size (recorded f s) src_inside dst_inside i
         ∙ ap (λ (v : ℕ → ℕ). cond (in_part dst_at size i) (v (src_at + (i - dst_at))) (recorded f s dst.0 i)) (sym source)
         ∙ ap (λ (v : ℕ → ℕ). cond (in_part dst_at size i) (view f s o (src_at + (i - dst_at))) (v i)) (sym (target (recorded f s)))
 
     go : (p : Object) → (p ≡ q) ⊎ (p ≢ q) →
-        content_in (kinds_of s) (apply (kinds_of s) (Command 0 (record { op = CopyBuffer src src_at dst dst_at size })) (recorded f s)) (f.objects p)
-        ≡ put_object (view f s) q (λ i. cond (nat_le dst_at i && nat_lt i (dst_at + size)) (view f s o (src_at + (i - dst_at))) (view f s q i)) p
+        content_in (kinds_of s) copied (f.objects p)
+        ≡ put_object (view f s) q new p
     go p (inl same) =
-        ap (λ x. content_in (kinds_of s) (apply (kinds_of s) (Command 0 (record { op = CopyBuffer src src_at dst dst_at size })) (recorded f s)) (f.objects x)) same
-        ∙ target (apply (kinds_of s) (Command 0 (record { op = CopyBuffer src src_at dst dst_at size })) (recorded f s))
+        ap (λ x. content_in (kinds_of s) copied (f.objects x)) same
+        ∙ target copied
         ∙ fun_ext cell
-        ∙ sym (put_object-same (view f s) q (λ i. cond (nat_le dst_at i && nat_lt i (dst_at + size)) (view f s o (src_at + (i - dst_at))) (view f s q i)))
-        ∙ sym (ap (put_object (view f s) q (λ i. cond (nat_le dst_at i && nat_lt i (dst_at + size)) (view f s o (src_at + (i - dst_at))) (view f s q i))) same)
+        ∙ sym (put_object-same (view f s) q new)
+        ∙ sym (ap (put_object (view f s) q new) same)
     go p (inr other) =
-        shown_but f hands s h (kinds_of s) (apply (kinds_of s) (Command 0 (record { op = CopyBuffer src src_at dst dst_at size })) (recorded f s)) (recorded f s) p dst.0
+        shown_but f hands s h (kinds_of s) copied (recorded f s) p dst.0
         (store_apart h.owner p q dst.0 (ap h.owner (sym is_dst) ∙ (h.objects q c at_q).owned) other)
         (λ j ne. fun_ext (λ i. copy_leaves (kinds_of s) src src_at dst dst_at size (recorded f s) j i (inl (λ e. ne (sym e)))))
-        ∙ sym (put_object-other (view f s) q (λ i. cond (nat_le dst_at i && nat_lt i (dst_at + size)) (view f s o (src_at + (i - dst_at))) (view f s q i)) p other)
+        ∙ sym (put_object-other (view f s) q new p other)
 
 -- What waits
 
@@ -122,16 +128,19 @@ pub view_drained : (f : Face) (hands also : Hands) (s : Link) (index : ℕ) (o :
 view_drained f hands also s index o b w h is first none h' may =
     fun_ext (λ p. shown_fenced (with_object f o (Some (taken_from b 0))) also s index w.node h' may p ∙ go p (cases_object p o))
   where
-    go : (p : Object) → (p ≡ o) ⊎ (p ≢ o) → content_in (kinds_of s) (apply (kinds_of s) (Command 0 w.node) (recorded f s)) (put_object f.objects o (Some (taken_from b 0)) p) ≡ content_in (kinds_of s) (recorded f s) (f.objects p)
+    drained : Contents
+    drained = apply (kinds_of s) (Command 0 w.node) (recorded f s)
+
+    go : (p : Object) → (p ≡ o) ⊎ (p ≢ o) → content_in (kinds_of s) drained (put_object f.objects o (Some (taken_from b 0)) p) ≡ content_in (kinds_of s) (recorded f s) (f.objects p)
     go p (inl same) =
-        ap (λ x. content_in (kinds_of s) (apply (kinds_of s) (Command 0 w.node) (recorded f s)) (put_object f.objects o (Some (taken_from b 0)) x)) same
-        ∙ ap (content_in (kinds_of s) (apply (kinds_of s) (Command 0 w.node) (recorded f s))) (put_object-same f.objects o (Some (taken_from b 0)))
+        ap (λ x. content_in (kinds_of s) drained (put_object f.objects o (Some (taken_from b 0)) x)) same
+        ∙ ap (content_in (kinds_of s) drained) (put_object-same f.objects o (Some (taken_from b 0)))
         ∙ ap (λ c. c b.handle) (first_done (kinds_of s) b.waiting w first (recorded f s))
         ∙ sym (ap (content_in (kinds_of s) (recorded f s)) is)
         ∙ sym (ap (λ x. content_in (kinds_of s) (recorded f s) (f.objects x)) same)
     go p (inr other) =
-        ap (content_in (kinds_of s) (apply (kinds_of s) (Command 0 w.node) (recorded f s))) (put_object-other f.objects o (Some (taken_from b 0)) p other)
-        ∙ shown_but f hands s h (kinds_of s) (apply (kinds_of s) (Command 0 w.node) (recorded f s)) (recorded f s) p b.handle
+        ap (content_in (kinds_of s) drained) (put_object-other f.objects o (Some (taken_from b 0)) p other)
+        ∙ shown_but f hands s h (kinds_of s) drained (recorded f s) p b.handle
         (store_apart h.owner p o b.handle (h.objects o b is).owned other)
         (λ j ne. update_leaves (kinds_of s) w b.handle ((h.objects o b is).waiting 0 w first).update (recorded f s) j ne)
 
@@ -143,23 +152,23 @@ view_begun f s o id slot = view_with f s o (Some (stored_as id slot))
 pub view_staged : (f : Face) (s : Link) (o : Object) (b : Stored) (id : ℕ) (src dst : HandleId) (src_at dst_at size : ℕ) → f.objects o ≡ Some b →
     src.0 ≡ id → dst.0 ≡ b.handle → src.0 ≢ dst.0 → src_at + size ≤ the_end → dst_at + size ≤ the_end →
     ((place : ℕ) (w : Waiting) → slice_get b.waiting place ≡ Some w → touches_object w.node id ≡ false) →
-    view (with_object f o (Some (with_waiting b (record { staging = Some id; node = record { op = CopyBuffer src src_at dst dst_at size } })))) s
+    view (with_object f o (Some (with_waiting b (record { staging = Some id; node = copy_node src src_at dst dst_at size })))) s
     ≡ put_object (view f s) o (λ i. cond (nat_le dst_at i && nat_lt i (dst_at + size)) (recorded f s id (src_at + (i - dst_at))) (view f s o i))
 view_staged f s o b id src dst src_at dst_at size is is_src is_dst other src_inside dst_inside apart = view_with f s o (Some (with_waiting b last)) ∙ ap (put_object (view f s) o) (fun_ext cell)
   where
     last : Waiting
-    last = record { staging = Some id; node = record { op = CopyBuffer src src_at dst dst_at size } }
+    last = record { staging = Some id; node = copy_node src src_at dst dst_at size }
 
     earlier : Contents
     earlier = after_all (kinds_of s) (commands 0 (waits b)) (recorded f s)
 
-    source : after_all (kinds_of s) (commands 0 (waits b)) (recorded f s) src.0 ≡ recorded f s id
-    source = ap (after_all (kinds_of s) (commands 0 (waits b)) (recorded f s)) is_src ∙ nodes_leave (kinds_of s) (waits b) id (none_touching b.waiting id apart) (recorded f s)
+    source : earlier src.0 ≡ recorded f s id
+    source = ap earlier is_src ∙ nodes_leave (kinds_of s) (waits b) id (none_touching b.waiting id apart) (recorded f s)
 
-    target : after_all (kinds_of s) (commands 0 (waits b)) (recorded f s) dst.0 ≡ view f s o
-    target = ap (after_all (kinds_of s) (commands 0 (waits b)) (recorded f s)) is_dst ∙ sym (ap (content_in (kinds_of s) (recorded f s)) is)
+    target : earlier dst.0 ≡ view f s o
+    target = ap earlier is_dst ∙ sym (ap (content_in (kinds_of s) (recorded f s)) is)
 
-    cell : (i : ℕ) → content_in (kinds_of s) (recorded f s) (Some (with_waiting b (record { staging = Some id; node = record { op = CopyBuffer src src_at dst dst_at size } }))) i ≡ cond (nat_le dst_at i && nat_lt i (dst_at + size)) (recorded f s id (src_at + (i - dst_at))) (view f s o i)
+    cell : (i : ℕ) → content_in (kinds_of s) (recorded f s) (Some (with_waiting b last)) i ≡ cond (nat_le dst_at i && nat_lt i (dst_at + size)) (recorded f s id (src_at + (i - dst_at))) (view f s o i)
     cell i =
         ap (λ l. after_all (kinds_of s) (commands 0 l) (recorded f s) b.handle i) (map-append (λ (w : Waiting). w.node) b.waiting (last ∷ []))
         ∙ ap (λ (c : Contents). c b.handle i) (nodes-append (kinds_of s) (waits b) (last.node ∷ []) (recorded f s))
@@ -182,7 +191,7 @@ view_superseded f hands s o b place w src dst src_at dst_at len at size h is at_
     far (inl before) = inl (omega (arith, before, from))
     far (inr behind) = inr (omega (arith, behind, upto))
 
-    copy : w.node ≡ record { op = CopyBuffer src src_at dst dst_at len }
+    copy : w.node ≡ copy_node src src_at dst dst_at len
     copy = ap {B = Node} (λ (p : Op). record { op = p }) is_copy
 
     leaves : (c : Contents) → apply (kinds_of s) (Command 0 w.node) c b.handle i ≡ c b.handle i

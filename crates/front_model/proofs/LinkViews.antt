@@ -148,16 +148,16 @@ view_wrote f hands s o b at bytes h is clear apart inside = fun_ext (λ q. go q 
     shows : (c : Contents) → content_in (kinds_of s) c (f.objects o) ≡ c b.handle
     shows c = ap (content_in (kinds_of s) c) is ∙ content_clear (kinds_of s) c b clear
 
-    go : (q : Object) → (q ≡ o) ⊎ (q ≢ o) → view f (wrote s b.handle at bytes) q ≡ put_object (view f s) o (λ i. cond (nat_le at i && nat_lt i (at + length bytes)) (slice_index bytes (i - at)) (view f s o i)) q
+    go : (q : Object) → (q ≡ o) ⊎ (q ≢ o) → view f (wrote s b.handle at bytes) q ≡ put_object (view f s) o new q
     go q (inl same) =
         ap (view f (wrote s b.handle at bytes)) same
         ∙ shows (recorded f (wrote s b.handle at bytes))
         ∙ fun_ext (λ i. wrote_cell f hands s h b.handle at bytes apart inside i ∙ sym (ap (λ (v : ℕ → ℕ). cond (in_part at (length bytes) i) (slice_index bytes (i - at)) (v i)) (shows (recorded f s))))
-        ∙ sym (put_object-same (view f s) o (λ i. cond (nat_le at i && nat_lt i (at + length bytes)) (slice_index bytes (i - at)) (view f s o i)))
-        ∙ sym (ap (put_object (view f s) o (λ i. cond (nat_le at i && nat_lt i (at + length bytes)) (slice_index bytes (i - at)) (view f s o i))) same)
+        ∙ sym (put_object-same (view f s) o new)
+        ∙ sym (ap (put_object (view f s) o new) same)
     go q (inr other) =
         shown_but f hands s h (kinds_of s) (recorded f (wrote s b.handle at bytes)) (recorded f s) q b.handle (store_apart h.owner q o b.handle (h.objects o b is).owned other) (wrote_alike f hands s h b.handle at bytes apart)
-        ∙ sym (put_object-other (view f s) o (λ i. cond (nat_le at i && nat_lt i (at + length bytes)) (slice_index bytes (i - at)) (view f s o i)) q other)
+        ∙ sym (put_object-other (view f s) o new q other)
 
 -- A read by the host, an answer, a gift
 

@@ -43,27 +43,27 @@ only false e = e
 
 -- Copies
 
-module _ (kinds : ℕ → Kind) (src : HandleId) (src_at : ℕ) (dst : HandleId) (dst_at size : ℕ) (c : Contents) where
-  abbrev copied : Contents
-  copied = apply kinds (Command 0 (record { op = CopyBuffer src src_at dst dst_at size })) c
+abbrev pub copy_node : HandleId → ℕ → HandleId → ℕ → ℕ → Node
+copy_node src src_at dst dst_at size = record { op = CopyBuffer src src_at dst dst_at size }
 
+module _ (kinds : ℕ → Kind) (src : HandleId) (src_at : ℕ) (dst : HandleId) (dst_at size : ℕ) (c : Contents) where
   -- a copy at each place of the buffer that it writes
-  pub copy_cell : src_at + size ≤ the_end → dst_at + size ≤ the_end → (i : ℕ) → apply kinds (Command 0 (record { op = CopyBuffer src src_at dst dst_at size })) c dst.0 i ≡ cond (in_part dst_at size i) (c src.0 (src_at + (i - dst_at))) (c dst.0 i)
+  pub copy_cell : src_at + size ≤ the_end → dst_at + size ≤ the_end → (i : ℕ) → apply kinds (Command 0 (copy_node src src_at dst dst_at size)) c dst.0 i ≡ cond (in_part dst_at size i) (c src.0 (src_at + (i - dst_at))) (c dst.0 i)
   copy_cell src_inside dst_inside i = go (in_part dst_at size i) refl
     where
-      go : (b : Bool) → in_part dst_at size i ≡ b → apply kinds (Command 0 (record { op = CopyBuffer src src_at dst dst_at size })) c dst.0 i ≡ cond b (c src.0 (src_at + (i - dst_at))) (c dst.0 i)
+      go : (b : Bool) → in_part dst_at size i ≡ b → apply kinds (Command 0 (copy_node src src_at dst dst_at size)) c dst.0 i ≡ cond b (c src.0 (src_at + (i - dst_at))) (c dst.0 i)
       go true e =
           let at : (dst_at ≤ i) × (i < dst_at + size) = inside_part dst_at size i e in
           let back : dst_at + (i - dst_at) ≡ i = omega (arith, at.0) in
-          ap (apply kinds (Command 0 (record { op = CopyBuffer src src_at dst dst_at size })) c dst.0) (sym back)
+          ap (apply kinds (Command 0 (copy_node src src_at dst dst_at size)) c dst.0) (sym back)
           ∙ copy_inside kinds 0 src src_at dst dst_at size c src_inside dst_inside (i - dst_at) (omega (arith, at.0, at.1))
       go false e = copy_outside kinds 0 src src_at dst dst_at size c src_inside dst_inside dst.0 i (inr (outside_part dst_at size i e))
 
   -- and elsewhere
-  pub copy_leaves : (id i : ℕ) → (dst.0 ≢ id) ⊎ ((i < dst_at) ⊎ (dst_at + size ≤ i)) → apply kinds (Command 0 (record { op = CopyBuffer src src_at dst dst_at size })) c id i ≡ c id i
+  pub copy_leaves : (id i : ℕ) → (dst.0 ≢ id) ⊎ ((i < dst_at) ⊎ (dst_at + size ≤ i)) → apply kinds (Command 0 (copy_node src src_at dst dst_at size)) c id i ≡ c id i
   copy_leaves id i out =
       let write : Range = record { id = dst.0; start = dst_at; end = min (dst_at + size) the_end; written = true } in
-      after_unwritten kinds (Command 0 (record { op = CopyBuffer src src_at dst dst_at size })) c id i (or_from (covers id i write) false (far write refl refl refl out) refl)
+      after_unwritten kinds (Command 0 (copy_node src src_at dst dst_at size)) c id i (or_from (covers id i write) false (far write refl refl refl out) refl)
     where
       far : (r : Range) → r.id ≡ dst.0 → r.start ≡ dst_at → r.end ≡ min (dst_at + size) the_end → (dst.0 ≢ id) ⊎ ((i < dst_at) ⊎ (dst_at + size ≤ i)) → covers id i r ≡ false
       far r same start stop (inl other) = other_object id i r (λ e. other (sym same ∙ e))
