@@ -1,1 +1,4 @@
 pub mod Base
+pub mod Uses
+pub mod Sounds
+pub mod Orders
