@@ -2,3 +2,5 @@ pub mod Base
 pub mod Uses
 pub mod Sounds
 pub mod Orders
+pub mod Standing
+pub mod LinkSteps
