@@ -4,3 +4,5 @@ pub mod Sounds
 pub mod Orders
 pub mod Standing
 pub mod LinkSteps
+pub mod ObjectSteps
+pub mod Taking
