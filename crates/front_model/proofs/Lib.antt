@@ -6,3 +6,4 @@ pub mod Standing
 pub mod LinkSteps
 pub mod ObjectSteps
 pub mod Taking
+pub mod Recording
