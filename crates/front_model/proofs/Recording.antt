@@ -127,3 +127,120 @@ module _ (f : Face) (hands : Hands) (s : Link) (index : ℕ) (batch : Batch) (h 
       last : (i : ℕ) → IsOfGroup f.group i → (i ≡ index) ⊎ (i ≡ index → ⊥) → put f.last index (f.last index + 1) i ≡ last_number (batches_of (enqueued s batch).mine) i
       last i of (inl e) = put_at f.last index (f.last index + 1) i e ∙ sym number_now ∙ ap (last_number (batches_of (enqueued s batch).mine)) (sym e)
       last i of (inr ne) = put-other f.last index (f.last index + 1) i ne ∙ h.last i of ∙ sym (number_other i ne)
+
+-- Nodes are recorded
+
+module _ (f : Face) (hands : Hands) (s : Link) (index : ℕ) (nodes : List Node) (h : Holds f hands s) (may : MayRecord f hands s index nodes) where
+  -- what they touch is held
+  target_held : (id : ℕ) → IsTarget f hands id → s.held id ≡ true
+  target_held id (inl hand) = let slot = some_is (hands id) hand in (h.hands_stand id slot.0 slot.1).stands.held
+  target_held id (inr (o, b, at, is)) = ap s.held (sym is) ∙ (h.objects o b at).slot.held
+
+  -- and is no staging buffer
+  staging_apart : (o : Object) (place id : ℕ) → h.owner id ≡ Staging o place → nodes_touch nodes id ≡ false
+  staging_apart o place id own = false_from_ne_true (nodes_touch nodes id) (λ t. go (may.targets id t))
+    where
+      go : IsTarget f hands id → ⊥
+      go (inl hand) =
+          let slot = some_is (hands id) hand in
+          let k : InHand ≡ Staging o place = sym (h.hands_stand id slot.0 slot.1).owned ∙ own in
+          cc
+      go (inr (q, b, at, is)) =
+          let k : Store q ≡ Staging o place = sym (h.objects q b at).owned ∙ ap h.owner is ∙ own in
+          cc
+
+  touch_now : (j : ℕ) → nodes_touch ((with_nodes f index nodes).pending index) j ≡ (nodes_touch (f.pending index) j || nodes_touch nodes j)
+  touch_now j = ap (λ l. nodes_touch l j) (put-same f.pending index (f.pending index ++ nodes)) ∙ nodes_touch-append (f.pending index) nodes j
+
+  touch_other : (j i : ℕ) → i ≢ index → nodes_touch ((with_nodes f index nodes).pending i) j ≡ nodes_touch (f.pending i) j
+  touch_other j i ne = ap (λ l. nodes_touch l j) (put-other f.pending index (f.pending index ++ nodes) i ne)
+
+  -- a use that was noted is the one that the handle has then
+  noted_use : (j i used : ℕ) → used ≡ use_of f s j i → cond ((i == index) && nodes_touch nodes j) (f.last index + 1) used ≡ use_of (with_nodes f index nodes) s j i
+  noted_use j i used is = go (cases_eq i index)
+    where
+      by_tests : (old new : Bool) (n m : ℕ) → cond new n (cond old n m) ≡ cond (old || new) n m
+      by_tests true true n m = refl
+      by_tests true false n m = refl
+      by_tests false true n m = refl
+      by_tests false false n m = refl
+
+      here : used ≡ use_of f s j index → cond ((index == index) && nodes_touch nodes j) (f.last index + 1) used ≡ use_of (with_nodes f index nodes) s j index
+      here e =
+          ap (λ b. cond (b && nodes_touch nodes j) (f.last index + 1) used) (eq-eqb index index refl)
+          ∙ ap (cond (nodes_touch nodes j) (f.last index + 1)) e
+          ∙ by_tests (nodes_touch (f.pending index) j) (nodes_touch nodes j) (f.last index + 1) (last_use s.mine index j)
+          ∙ ap (λ b. cond b (f.last index + 1) (last_use s.mine index j)) (sym (touch_now j))
+
+      go : (i ≡ index) ⊎ (i ≡ index → ⊥) → cond ((i == index) && nodes_touch nodes j) (f.last index + 1) used ≡ use_of (with_nodes f index nodes) s j i
+      go (inl e) = subst (λ k. cond ((k == index) && nodes_touch nodes j) (f.last index + 1) used ≡ use_of (with_nodes f index nodes) s j k) (sym e) (here (is ∙ ap (use_of f s j) e))
+      go (inr ne) =
+          cond-false ((i == index) && nodes_touch nodes j) (f.last index + 1) used (and_left (i == index) (nodes_touch nodes j) (ne_eqb i index ne))
+          ∙ is ∙ ap (λ b. cond b (f.last i + 1) (last_use s.mine i j)) (sym (touch_other j i ne))
+
+  noted_slot : (j : ℕ) (slot : Slot) → SlotStands f s j slot → SlotStands (with_nodes f index nodes) s j (noted index (f.last index + 1) nodes j slot)
+  noted_slot j slot stands = record { held = stands.held; kind = stands.kind; used = λ i. noted_use j i (slot.used i) (stands.used i) }
+
+  -- a handle that they do not touch is as before
+  apart_slot : (j : ℕ) → nodes_touch nodes j ≡ false → SameSlot f (with_nodes f index nodes) s s j
+  apart_slot j none = record {
+    held = refl;
+    kind = refl;
+    uses = λ i. sym (noted_use j i (use_of f s j i) refl) ∙ cond-false ((i == index) && nodes_touch nodes j) (f.last index + 1) (use_of f s j i) (and_right (i == index) (nodes_touch nodes j) none);
+  }
+
+  noted_stored : (o : Object) (b : Stored) → StoredStands f s h.owner o b → StoredStands (with_nodes f index nodes) s h.owner o (noted_store index (f.last index + 1) nodes b)
+  noted_stored o b u = record {
+    slot = noted_slot b.handle b.slot u.slot;
+    owned = u.owned;
+    waiting = λ place w at. waiting_kept f (with_nodes f index nodes) s s h.owner h.owner (λ i kind at. at) o b.handle place place w
+        (λ id is. apart_slot id (staging_apart o place id (staging_stands f s h.owner o b.handle place id w is (u.waiting place w at)).owned)) (λ id is of. of) (u.waiting place w at);
+  }
+
+  touched_now : (i id : ℕ) → nodes_touch ((with_nodes f index nodes).pending i) id ≡ true → (i ≡ index) ⊎ (i ≡ index → ⊥) → MayTouch s i (f.last i + 1) id
+  touched_now i id touch (inl e) = elim (or_cases (nodes_touch (f.pending i) id) (nodes_touch nodes id) (either ∙ touch)) [ inl old ↦ h.touched i id old | inr new ↦ inl (target_held id (may.targets id new)) ]
+    where
+      either : (nodes_touch (f.pending i) id || nodes_touch nodes id) ≡ nodes_touch ((with_nodes f index nodes).pending i) id
+      either = subst (λ k. (nodes_touch (f.pending k) id || nodes_touch nodes id) ≡ nodes_touch ((with_nodes f index nodes).pending k) id) (sym e) (sym (touch_now id))
+  touched_now i id touch (inr ne) = h.touched i id (sym (touch_other id i ne) ∙ touch)
+
+  touch_more : (i id : ℕ) → nodes_touch (f.pending i) id ≡ true → (i ≡ index) ⊎ (i ≡ index → ⊥) → nodes_touch ((with_nodes f index nodes).pending i) id ≡ true
+  touch_more i id touch (inl e) = subst (λ k. nodes_touch ((with_nodes f index nodes).pending k) id ≡ true) (sym e) (touch_now id ∙ or_left (nodes_touch (f.pending index) id) (nodes_touch nodes id) (ap (λ k. nodes_touch (f.pending k) id) (sym e) ∙ touch))
+  touch_more i id touch (inr ne) = touch_other id i ne ∙ touch
+
+  pub recorded_holds : ChangePlaces → Mutual → Holds (with_nodes f index nodes) (noted_hands hands index (f.last index + 1) nodes) s
+  recorded_holds change turn =
+      let g : Face = with_nodes f index nodes in
+      let both : List Node = f.pending index ++ nodes in
+      record {
+        sound = sound_recorded f.pending (indexes_of f.group) index (split f.group index may.of_group) (log_of s.mine) change turn h.none_empty nodes may.none_empty may.apart may.sound;
+        barriers = barriers_recorded f.pending (indexes_of f.group) index (split f.group index may.of_group) (log_of s.mine) nodes (barriers_nodes nodes may.barriers) h.barriers;
+        apart = λ i j ne. put_holds (λ l. NoConflict l (g.pending j)) f.pending index both i
+            (λ e. put_holds (NoConflict both) f.pending index both j (λ e'. absurd (ne (e ∙ sym e')))
+                (λ ne'. apart_left (f.pending index) nodes (f.pending j) (h.apart index j (λ e'. ne' (sym e'))) (may.apart j ne')))
+            (λ ne'. put_holds (NoConflict (f.pending i)) f.pending index both j
+                (λ e. apart_right (f.pending i) (f.pending index) nodes (h.apart i index ne') (apart_turned turn nodes (f.pending i) (may.apart i ne')))
+                (λ other. h.apart i j ne));
+        fits = λ i. put_holds (All (NodeFits s.kinds)) f.pending index both i (λ e. All-append (NodeFits s.kinds) (f.pending index) nodes (h.fits index) may.fits) (λ ne. h.fits i);
+        none_empty = λ i. put_holds (All NoneEmpty) f.pending index both i (λ e. All-append NoneEmpty (f.pending index) nodes (h.none_empty index) may.none_empty) (λ ne. h.none_empty i);
+        few = λ i. put_holds (λ (l : List Node). length l < 4294967294) f.pending index both i
+            (λ e. let sum : length both ≡ length (f.pending index) + length nodes = length-append (f.pending index) nodes in let few : length (f.pending index) + length nodes < 4294967294 = may.few in omega (arith, sum, few)) (λ ne. h.few i);
+        of_group = λ i other. put_holds (λ l. l ≡ []) f.pending index both i (λ e. absurd (other (subst (IsOfGroup f.group) (sym e) may.of_group))) (λ ne. h.of_group i other);
+        owner = h.owner;
+        objects = λ o c at. let from = map_is (noted_store index (f.last index + 1) nodes) (f.objects o) c at in
+            subst (StoredStands g s h.owner o) from.2 (noted_stored o from.0 (h.objects o from.0 from.1));
+        hands_stand = λ id slot at. let from = map_is (noted index (f.last index + 1) nodes id) (hands id) slot at in
+            let u = h.hands_stand id from.0 from.1 in
+            subst (HandStands g s h.owner id) from.2 (record { stands = noted_slot id from.0 u.stands; owned = u.owned });
+        no_others = λ id held. elim (h.no_others id held) [
+          | inl hand ↦ inl (map_some (noted index (f.last index + 1) nodes id) (hands id) hand)
+          | inr has ↦ inr (has.0, noted_store index (f.last index + 1) nodes has.1, ap (option_map (noted_store index (f.last index + 1) nodes)) has.2, has.3)
+        ];
+        touched = λ i id touch. touched_now i id touch (cases_eq i index);
+        given = λ id i uses at. elim (h.given id i uses at) [ inl low ↦ inl low | inr new ↦ inr (new.0, new.1, touch_more i id new.2 (cases_eq i index)) ];
+        group = h.group;
+        few_groups = h.few_groups;
+        last = h.last;
+        room = h.room;
+        low = h.low;
+      }
