@@ -46,6 +46,12 @@ put-true f k i e = elim (cases_eq i k) [
   | inr other ↦ put-other f k true i other ∙ e
 ]
 
+pub put_holds : {A : Type 0} → (P : A → Type 0) (f : ℕ → A) (k : ℕ) (v : A) (i : ℕ) → (i ≡ k → P v) → (i ≢ k → P (f i)) → P (put f k v i)
+put_holds P f k v i here there = elim (cases_eq i k) [
+  | inl same ↦ subst P (sym (put_at f k v i same)) (here same)
+  | inr other ↦ subst P (sym (put-other f k v i other)) (there other)
+]
+
 -- Objects
 
 pub same_object-true : (o q : Object) → same_object o q ≡ true → o ≡ q
@@ -99,6 +105,10 @@ map_some v (Some x) some = refl
 
 pub is_some_of : {A : Type 0} (o : Option A) (x : A) → o ≡ Some x → IsSome o
 is_some_of o x e = ap is_some e
+
+pub some_is : {A : Type 0} (o : Option A) → IsSome o → (x : A) × (o ≡ Some x)
+some_is None some = let no : false ≡ true = some in cc
+some_is (Some x) some = (x, refl)
 
 pub not_some : {A : Type 0} (o : Option A) → o ≡ None → IsSome o → ⊥
 not_some o e some = let n : is_some o ≡ false = ap is_some e in cc

@@ -6,3 +6,11 @@ pub mod Updates
 pub mod Shown
 pub mod LinkViews
 pub mod FrontViews
+pub mod Uses
+pub mod Sounds
+pub mod Orders
+pub mod Standing
+pub mod LinkSteps
+pub mod ObjectSteps
+pub mod Taking
+pub mod Recording

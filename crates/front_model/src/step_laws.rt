@@ -15,6 +15,9 @@ ghost use Rattle.front_model.specs.Face.{Object, Waiting, Slot, Stored, Face, no
 ghost use Rattle.front_model.specs.Stands.{Hands, no_hands, Holds, Owns, IsQuiet, new_face};
 ghost use Rattle.front_model.specs.Steps.{fresh_slot, AreUses, full_barrier, with_nodes, noted_hands, MayRecord, IsNextBatch, flushed, with_object, stored_as, with_waiting, taken_from};
 
+use back_core::uses_are_low;
+use vk_model::{conflict_is_mutual, lists_change_places};
+
 /// A front with nothing in it holds on a link that its group has not used. Then each step keeps what holds.
 pub fn steps_hold()
     ensures starts { (s : Link) (group : ℕ) → group < 8 → IsNew s group → Holds (new_face group) no_hands s }
@@ -43,7 +46,11 @@ pub fn steps_hold()
     ensures takes { (f : Face) (hands : Hands) (s : Link) (o : Object) (b : Stored) (place id : ℕ) (node : Node) (kind : Kind) → Holds f hands s →
         f.objects o ≡ Some b → slice_get b.waiting place ≡ Some (record { staging = Some id; node = node }) → s.kinds id ≡ Some kind →
         Holds (with_object f o (Some (taken_from b place))) (put hands id (Some (fresh_slot kind))) s }
-{}
+{
+    lists_change_places();
+    conflict_is_mutual();
+    uses_are_low();
+}
 
 /// What the calls of the link need holds.
 pub fn steps_may()
@@ -67,7 +74,9 @@ pub fn steps_may()
         f.objects o ≡ Some b → b.handle ≢ id }
     ensures owns { (f : Face) (hands : Hands) (s : Link) → Holds f hands s → Owns f.objects s }
     ensures lets_go { (f : Face) (hands : Hands) (s : Link) (id : ℕ) (slot : Slot) → Holds f hands s → hands id ≡ Some slot → Owns f.objects (abandoned s id) }
-{}
+{
+    lists_change_places();
+}
 
 /// An object that is quiet stays so, through each step that does not touch it.
 pub fn quiet_objects_stay()
