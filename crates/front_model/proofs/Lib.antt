@@ -1,0 +1,16 @@
+pub mod Base
+pub mod Contents
+pub mod Barriers
+pub mod OrderedViews
+pub mod Updates
+pub mod Shown
+pub mod LinkViews
+pub mod FrontViews
+pub mod Uses
+pub mod Sounds
+pub mod Orders
+pub mod Standing
+pub mod LinkSteps
+pub mod ObjectSteps
+pub mod Taking
+pub mod Recording

@@ -1,0 +1,22 @@
+use Rattle.std.proofs.Common.{refl}
+use Rattle.front_model.proofs.LinkSteps.{new_holds, created_holds, wrote_holds, fetched_holds, learned_holds, gave_holds}
+use Rattle.front_model.proofs.ObjectSteps.{begun_holds, ended_holds, staged_holds}
+use Rattle.front_model.proofs.Taking.{taken_holds}
+use Rattle.front_model.proofs.Recording.{enqueued_holds, recorded_holds}
+use Rattle.front_model.proofs.step_laws.steps_hold.Goals as goal
+
+pub returns : goal.returns
+returns c = record {
+  starts = new_holds;
+  creates = created_holds;
+  writes = λ f hands s id at bytes h none. wrote_holds f hands s id at bytes h;
+  fetches = fetched_holds;
+  learns = learned_holds;
+  enqueues = λ f hands s index batch h own next room. enqueued_holds f hands s index batch h own next c.lists_change_places.ensures.sound c.uses_are_low.ensures.batch room;
+  gives = gave_holds;
+  records = λ f hands s index nodes h may. recorded_holds f hands s index nodes h may c.lists_change_places.ensures.sound c.conflict_is_mutual.ensures;
+  begins = begun_holds;
+  ends = ended_holds;
+  stages = staged_holds;
+  takes = taken_holds;
+}

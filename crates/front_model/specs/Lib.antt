@@ -1,0 +1,3 @@
+pub mod Face
+pub mod Stands
+pub mod Steps

@@ -1,0 +1,9 @@
+//! What the front of a share group is without where it lies in memory, and when it stands on what its group sees of the
+//! back: the steps of which its moves are made keep that, and change what its objects hold as they say.
+#![tactic(auto)]
+
+mod step_laws;
+mod view_laws;
+
+pub use step_laws::{quiet_objects_stay, steps_hold, steps_may};
+pub use view_laws::{fenced_nodes_stay_sound, front_steps_show, link_steps_show};

@@ -1,0 +1,84 @@
+// What each step does to what the objects hold.
+ghost use Rattle.std.specs.Prelude.{◌≡◌, ◌≢◌, ℕ, ◌+◌, ◌<◌, ◌≤◌, ◌⊎◌, List, [], ◌∷◌, ◌++◌, length, slice_get, Option, Some, None, true, false, if◌then◌else◌, nat_lt, nat_le, ◌&&◌, ◌-◌, slice_index};
+ghost use Rattle.cells.specs.Contents.{UNDEFINED};
+ghost use Rattle.vk_types.specs.declared.handles.HandleId.{HandleId};
+ghost use Rattle.vk_types.specs.declared.handles.Kind.{Kind};
+ghost use Rattle.vk_types.specs.declared.batches.Batch.{Batch};
+ghost use Rattle.vk_types.specs.declared.batches.QueueSerial.{QueueSerial};
+ghost use Rattle.vk_types.specs.declared.ops.Node.{Node};
+ghost use Rattle.vk_types.specs.Touches.{barrier_of, the_end};
+ghost use Rattle.vk_types.specs.declared.ops.Op.TheVariants as op;
+ghost use Rattle.vk_model.specs.Log.{IsSound, IsOneQueue, Item, commands, NoneEmpty, touches_object};
+ghost use Rattle.vk_model.specs.Meaning.{after_all};
+ghost use Rattle.back_core.specs.Link.{Link, created, wrote, enqueued, fetched, gave, kinds_of};
+ghost use Rattle.back_core.specs.Needs.{IsOfGroup, IsFresh};
+ghost use Rattle.back_core.specs.Answers.{Learns};
+ghost use Rattle.front_model.specs.Face.{Object, Waiting, Slot, Stored, Face, put_object, view, recorded, nodes_touch, whole_log};
+ghost use Rattle.front_model.specs.Stands.{Hands, no_hands, HaveFullBarriers, Holds, new_face};
+ghost use Rattle.front_model.specs.Steps.{fresh_slot, with_nodes, MayRecord, IsNextBatch, flushed, with_object, stored_as, with_waiting, taken_from, fenced, full_barrier, HasNoLayout};
+
+/// A front with nothing in it shows nothing. The link's steps change no view, but for a write into the store of an object.
+pub fn link_steps_show()
+    ensures starts { (s : Link) (group : ℕ) → view (new_face group) s ≡ (λ o p. UNDEFINED) }
+    ensures creates { (f : Face) (hands : Hands) (s : Link) (id : ℕ) (kind : Kind) → Holds f hands s → IsFresh s id → view f (created s id kind) ≡ view f s }
+    ensures writes_hand { (f : Face) (hands : Hands) (s : Link) (id at : ℕ) (bytes : List ℕ) (slot : Slot) → Holds f hands s → hands id ≡ Some slot →
+        ((index : ℕ) → nodes_touch (f.pending index) id ≡ false) → view f (wrote s id at bytes) ≡ view f s }
+    ensures writes { (f : Face) (hands : Hands) (s : Link) (o : Object) (b : Stored) (at : ℕ) (bytes : List ℕ) → Holds f hands s → f.objects o ≡ Some b →
+        b.waiting ≡ [] → ((index : ℕ) → nodes_touch (f.pending index) b.handle ≡ false) → at + length bytes ≤ the_end →
+        view f (wrote s b.handle at bytes)
+        ≡ put_object (view f s) o (λ i. if nat_le at i && nat_lt i (at + length bytes) then slice_index bytes (i - at) else view f s o i) }
+    ensures fetches { (f : Face) (s : Link) (id at : ℕ) (bytes : List ℕ) → view f (fetched s id at bytes) ≡ view f s }
+    ensures learns { (f : Face) (s t : Link) → Learns s t → view f t ≡ view f s }
+    ensures enqueues { (f : Face) (hands : Hands) (s : Link) (index : ℕ) (batch : Batch) → Holds f hands s → IsOfGroup f.group index →
+        IsNextBatch f index batch → view (flushed f index) (enqueued s batch) ≡ view f s }
+    ensures gives { (f : Face) (s : Link) (id : ℕ) (uses : List QueueSerial) → view f (gave s id uses) ≡ view f s }
+{}
+
+/// What recording, staging, beginning and ending do to the view.
+pub fn front_steps_show()
+    // the nodes come after all that was recorded
+    ensures records { (f : Face) (hands : Hands) (s : Link) (index : ℕ) (nodes : List Node) → Holds f hands s → MayRecord f hands s index nodes →
+        recorded (with_nodes f index nodes) s ≡ after_all (kinds_of s) (commands 0 nodes) (recorded f s) }
+    // an object that they do not touch, nor any staging buffer of what waits on it, shows what it showed
+    ensures apart { (f : Face) (hands : Hands) (s : Link) (index : ℕ) (nodes : List Node) (o : Object) (b : Stored) → Holds f hands s →
+        MayRecord f hands s index nodes → f.objects o ≡ Some b → nodes_touch nodes b.handle ≡ false →
+        ((place id : ℕ) (w : Waiting) → slice_get b.waiting place ≡ Some w → w.staging ≡ Some id → nodes_touch nodes id ≡ false) →
+        view (with_nodes f index nodes) s o ≡ view f s o }
+    // a copy between two objects on which nothing waits
+    ensures copies { (f : Face) (hands : Hands) (s : Link) (index : ℕ) (o q : Object) (b c : Stored) (src dst : HandleId) (src_at dst_at size : ℕ) → Holds f hands s →
+        MayRecord f hands s index (fenced (record { op = op.CopyBuffer src src_at dst dst_at size })) →
+        f.objects o ≡ Some b → b.waiting ≡ [] → b.handle ≡ src.0 → f.objects q ≡ Some c → c.waiting ≡ [] → c.handle ≡ dst.0 →
+        src_at + size ≤ the_end → dst_at + size ≤ the_end →
+        view (with_nodes f index (fenced (record { op = op.CopyBuffer src src_at dst dst_at size }))) s
+        ≡ put_object (view f s) q (λ i. if nat_le dst_at i && nat_lt i (dst_at + size) then view f s o (src_at + (i - dst_at)) else view f s q i) }
+    // the first of what waits on an object, taken and recorded behind barriers
+    ensures drains { (f : Face) (hands also : Hands) (s : Link) (index : ℕ) (o : Object) (b : Stored) (w : Waiting) → Holds f hands s →
+        f.objects o ≡ Some b → slice_get b.waiting 0 ≡ Some w → barrier_of w.node ≡ None →
+        Holds (with_object f o (Some (taken_from b 0))) also s → MayRecord (with_object f o (Some (taken_from b 0))) also s index (fenced w.node) →
+        view (with_nodes (with_object f o (Some (taken_from b 0))) index (fenced w.node)) s ≡ view f s }
+    // barriers alone
+    ensures barrier { (f : Face) (hands : Hands) (s : Link) (index : ℕ) (n : Node) → Holds f hands s → MayRecord f hands s index (n ∷ []) →
+        ((c : ℕ → ℕ → ℕ) → after_all (kinds_of s) (commands 0 (n ∷ [])) c ≡ c) → view (with_nodes f index (n ∷ [])) s ≡ view f s }
+    ensures begins { (f : Face) (s : Link) (o : Object) (id : ℕ) (slot : Slot) →
+        view (with_object f o (Some (stored_as id slot))) s ≡ put_object (view f s) o (recorded f s id) }
+    ensures ends { (f : Face) (s : Link) (o : Object) → view (with_object f o None) s ≡ put_object (view f s) o (λ p. UNDEFINED) }
+    // an update of bytes from the staging buffer
+    ensures stages { (f : Face) (s : Link) (o : Object) (b : Stored) (id : ℕ) (src dst : HandleId) (src_at dst_at size : ℕ) → f.objects o ≡ Some b →
+        src.0 ≡ id → dst.0 ≡ b.handle → src.0 ≢ dst.0 → src_at + size ≤ the_end → dst_at + size ≤ the_end →
+        ((place : ℕ) (w : Waiting) → slice_get b.waiting place ≡ Some w → touches_object w.node id ≡ false) →
+        view (with_object f o (Some (with_waiting b (record { staging = Some id; node = record { op = op.CopyBuffer src src_at dst dst_at size } })))) s
+        ≡ put_object (view f s) o (λ i. if nat_le dst_at i && nat_lt i (dst_at + size) then recorded f s id (src_at + (i - dst_at)) else view f s o i) }
+    // what lies wholly in a range shows nowhere else
+    ensures supersedes { (f : Face) (hands : Hands) (s : Link) (o : Object) (b : Stored) (place : ℕ) (w : Waiting) (src dst : HandleId) (src_at dst_at len at size : ℕ) →
+        Holds f hands s → f.objects o ≡ Some b → slice_get b.waiting place ≡ Some w → w.node.op ≡ op.CopyBuffer src src_at dst dst_at len →
+        at ≤ dst_at → dst_at + len ≤ at + size →
+        (i : ℕ) → (i < at) ⊎ (at + size ≤ i) → view (with_object f o (Some (taken_from b place))) s o i ≡ view f s o i }
+{}
+
+/// A node behind full barriers of all that it touches keeps a log sound.
+pub fn fenced_nodes_stay_sound()
+    ensures node { (log : List Item) (n : Node) → IsSound log → IsOneQueue log → HaveFullBarriers log → HasNoLayout n → barrier_of n ≡ None → IsSound (log ++ commands 0 (fenced n)) }
+    ensures barrier { (log : List Item) (id : HandleId) → IsSound log → IsOneQueue log → HaveFullBarriers log → IsSound (log ++ commands 0 (full_barrier id ∷ [])) }
+    ensures one_queue { (f : Face) (s : Link) → IsOneQueue (whole_log f s) }
+    ensures shows { (kinds : ℕ → Kind) (id : HandleId) (c : ℕ → ℕ → ℕ) → after_all kinds (commands 0 (full_barrier id ∷ [])) c ≡ c }
+{}
