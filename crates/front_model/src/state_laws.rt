@@ -28,6 +28,8 @@ ghost use Rattle.front_model.specs.Face.{Object, Buffer, put_object};
 ghost use Rattle.front_model.specs.Wanted.{buffer_kind, kind_wanted, wanted, AgreeWith, exists, IsMapped, IsAccepted, IsBound, HasBound, HasMapRange, IsPositive, with_bytes, with_copy};
 ghost use Rattle.front_model.specs.Calls.{makes_storage};
 
+use gl_model::{group_is_a_projection, images_after_an_effect, stores_after_an_effect};
+
 /// What a call is known to name where it is accepted.
 pub fn accepted_calls_are_in_range()
     ensures data { (state : GroupModel) (thread : ℕ) (context : Context) (target : BufferTarget) (size : ℤ) (usage : Usage) (payload : Option Payload) →
@@ -91,7 +93,11 @@ pub fn calls_keep_agreement()
         AgreeWith seen (wanted (refused state thread answer)) }
     ensures told { (state : GroupModel) (asked : Call) (answer : Reply) (seen : Object → ℕ → ℕ) → AgreeWith seen (wanted state) →
         AgreeWith seen (wanted (told state asked answer)) }
-{}
+{
+    group_is_a_projection();
+    stores_after_an_effect();
+    images_after_an_effect();
+}
 
 /// The stores that the objects are to have after a call, and which buffers are mapped.
 pub fn calls_keep_stores()
