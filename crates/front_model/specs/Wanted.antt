@@ -69,6 +69,11 @@ pub record Stands (f : Face) (s : Link) (state : GroupModel) : Type 0 where
   pub agreement : AgreeWith (view f s) (wanted state)
   pub maps : (b : ℕ) → IsMapped state.group b → IsQuiet f s (Buffer b)
 
+-- numbers of textures and renderbuffers that were not given yet are free
+pub record HasFreeNumbers (group : GroupState) : Type 0 where
+  pub textures : (t : ℕ) → group.texture_names.made ≤ t → entry t group.textures ≡ None
+  pub renderbuffers : (r : ℕ) → group.renderbuffer_names.made ≤ r → entry r group.renderbuffers ≡ None
+
 -- What holds where a call was accepted: its thread has a context, each object has what its size says, and something refers to it.
 pub record IsAccepted (state : GroupModel) (thread : ℕ) (call : Call) (context : Context) : Type 0 where
   pub current : current_context state.group thread ≡ Some context

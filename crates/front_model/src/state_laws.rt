@@ -25,7 +25,7 @@ ghost use Rattle.gl_model.specs.Reached.{changed_buffer, changed_images};
 ghost use Rattle.gl_model.specs.Refusal.{refusal};
 ghost use Rattle.gl_model.specs.Sizes.{HasSizes};
 ghost use Rattle.front_model.specs.Face.{Object, Buffer, put_object};
-ghost use Rattle.front_model.specs.Wanted.{buffer_kind, kind_wanted, wanted, AgreeWith, exists, IsMapped, IsAccepted, IsBound, HasBound, HasMapRange, IsPositive, with_bytes, with_copy};
+ghost use Rattle.front_model.specs.Wanted.{buffer_kind, kind_wanted, wanted, AgreeWith, exists, IsMapped, IsAccepted, IsBound, HasBound, HasFreeNumbers, HasMapRange, IsPositive, with_bytes, with_copy};
 ghost use Rattle.front_model.specs.Calls.{makes_storage};
 
 use gl_model::{group_is_a_projection, images_after_an_effect, stores_after_an_effect};
@@ -106,7 +106,7 @@ pub fn calls_keep_stores()
         kind_wanted (group_effect state.group thread (call.BufferData target size usage payload)) o
         ≡ put_object (kind_wanted state.group) (Buffer b) (buffer_kind (unsigned_abs size)) o }
     // an object that no longer exists has no store, and each other one has the store that it had
-    ensures others { (state : GroupModel) (thread : ℕ) (asked : Call) → HasSizes state → makes_storage asked ≡ false → (o : Object) →
+    ensures others { (state : GroupModel) (thread : ℕ) (asked : Call) → HasSizes state → HasFreeNumbers state.group → makes_storage asked ≡ false → (o : Object) →
         kind_wanted (group_effect state.group thread asked) o
         ≡ (if exists (group_effect state.group thread asked) o then kind_wanted state.group o else None) }
     ensures stays { (state : GroupModel) (thread : ℕ) (asked : Call) (o : Object) → HasSizes state →
