@@ -36,7 +36,7 @@ row_fails row rows h = by_case row.0 refl h
     by_case true is h = let bad : ⊥ = cc in absurd bad
     by_case false is h = (is, h)
 
-none_holds : (rows : List Row) → first_row rows ≡ None → NoneHolds rows
+pub none_holds : (rows : List Row) → first_row rows ≡ None → NoneHolds rows
 none_holds [] h = tt
 none_holds (row ∷ rows) h = let r : (row.0 ≡ false) × (first_row rows ≡ None) = row_fails row rows h in (r.0, none_holds rows r.1)
 

@@ -8,7 +8,7 @@ mod view_laws;
 
 pub use state_laws::{
     accepted_calls_are_in_range, calls_keep_agreement, calls_keep_stores,
-    reads_through_a_map_answer,
+    numbers_not_given_are_free, reads_through_a_map_answer,
 };
 pub use step_laws::{quiet_objects_stay, steps_hold, steps_may};
 pub use view_laws::{fenced_nodes_stay_sound, front_steps_show, link_steps_show};

@@ -8,6 +8,7 @@ ghost use Rattle.gl_calls.specs.declared.words.ObjectKind.TheVariants as kinds;
 ghost use Rattle.gl_calls.specs.declared.words.AccessWord.{AccessWord};
 ghost use Rattle.gl_calls.specs.declared.words.Usage.{Usage};
 ghost use Rattle.gl_calls.specs.declared.payload.Payload.{Payload};
+ghost use Rattle.gl_calls.specs.declared.reply.Entry.{Entry};
 ghost use Rattle.gl_calls.specs.declared.reply.Reply.{Reply};
 ghost use Rattle.gl_calls.specs.declared.reply.Reply.TheVariants as reply;
 ghost use Rattle.gl_calls.specs.Words.{payload_bytes, payload_len};
@@ -20,8 +21,8 @@ ghost use Rattle.gl_model.specs.BufferEffect.{data_cells};
 ghost use Rattle.gl_model.specs.GroupEffect.{group_effect, swept};
 ghost use Rattle.gl_model.specs.GroupModel.{GroupModel};
 ghost use Rattle.gl_model.specs.Effect.{effect};
-ghost use Rattle.gl_model.specs.Legal.{Answers, refused, told};
-ghost use Rattle.gl_model.specs.Reached.{changed_buffer, changed_images};
+ghost use Rattle.gl_model.specs.Legal.{Answers, after_entry, refused, told};
+ghost use Rattle.gl_model.specs.Reached.{changed_buffer, changed_images, reached};
 ghost use Rattle.gl_model.specs.Refusal.{refusal};
 ghost use Rattle.gl_model.specs.Sizes.{HasSizes};
 ghost use Rattle.front_model.specs.Face.{Object, Buffer, put_object};
@@ -124,6 +125,16 @@ pub fn calls_keep_stores()
         IsMapped (group_effect state.group thread asked) c → IsMapped state.group c }
     ensures maps_stay { (state : GroupModel) (thread c : ℕ) (answer : Reply) → IsMapped (refused state thread answer).group c → IsMapped state.group c }
 {}
+
+/// Numbers of textures and renderbuffers that were not given yet are free in each reached state.
+pub fn numbers_not_given_are_free()
+    ensures reached { (threads : List ℕ) (history : List Entry) → HasFreeNumbers (reached threads history).group }
+    ensures entry { (state : GroupModel) (e : Entry) (place : ℕ) → HasFreeNumbers state.group → HasFreeNumbers (after_entry state e place).group }
+    ensures effect { (state : GroupModel) (thread : ℕ) (asked : Call) (place : ℕ) →
+        HasFreeNumbers state.group → refusal state.group thread asked ≡ None → HasFreeNumbers (effect state thread asked place).group }
+{
+    group_is_a_projection();
+}
 
 /// Bytes that agree with what is seen are an answer to a read through a map.
 pub fn reads_through_a_map_answer()
