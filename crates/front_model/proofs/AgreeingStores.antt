@@ -1,16 +1,14 @@
 -- What agrees with the state after a call that changes one store and no image.
-use Rattle.std.proofs.Common.{◌≡◌, ℕ, ◌<◌, ◌==◌, Bool, true, false, cond, Option, Some, None, List, [], is_some, unwrap_or, refl, ap, sym, ◌∙◌, arith, if◌then◌else◌}
-use Rattle.std.specs.Option.{option_map, option_map_or}
+use Rattle.std.proofs.Common.{◌≡◌, ℕ, ◌==◌, Bool, true, false, cond, Option, Some, None, [], is_some, unwrap_or, refl, ap, sym, ◌∙◌, arith, if◌then◌else◌}
+use Rattle.std.specs.Option.{option_map}
 use Rattle.std.specs.List.{list_any}
 use Rattle.std.proofs.lemmas.Grind.{common_steps}
-use Rattle.cells.specs.Contents.{Content, cell_at}
+use Rattle.cells.specs.Contents.{Content}
 use Rattle.gl_calls.specs.declared.call.Call.{Call}
 use Rattle.tables.specs.Table.{Entries, entry, has}
 use Rattle.gl_model.specs.declared.state.Attachment.{Attachment}
 use Rattle.gl_model.specs.declared.state.Attachment.TheVariants as attachments
-use Rattle.gl_model.specs.declared.state.Context.{Context}
-use Rattle.gl_model.specs.declared.state.GroupState.{GroupState}
-use Rattle.gl_model.specs.Bindings.{current_context, same_attachment, same_option}
+use Rattle.gl_model.specs.Bindings.{same_attachment, same_option}
 use Rattle.gl_model.specs.GroupEffect.{group_effect}
 use Rattle.gl_model.specs.GroupModel.{GroupModel, Store}
 use Rattle.gl_model.specs.Effect.{effect, gl_contents, in_context, change_store, store_of, empty_store}

@@ -1,5 +1,5 @@
 -- What a call does to the tables of objects, before what nothing refers to is taken out.
-use Rattle.std.proofs.Common.{◌≡◌, ℕ, ◌+◌, ◌≤◌, Bool, true, false, Option, Some, None, unsigned_abs, refl, ap, sym, ◌∙◌, arith, if◌then◌else◌}
+use Rattle.std.proofs.Common.{◌≡◌, ℕ, false, Option, Some, None, refl, ap, arith, if◌then◌else◌}
 use Rattle.std.specs.Option.{option_and_then}
 use Rattle.formats.specs.declared.errors.EglError.TheVariants.{Success}
 use Rattle.vk_types.specs.declared.handles.Kind.{Kind}

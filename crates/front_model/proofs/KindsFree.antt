@@ -1,5 +1,5 @@
 -- Numbers of textures and renderbuffers that were not given yet stay free.
-use Rattle.std.proofs.Common.{◌≡◌, ℕ, ℤ, ◌+◌, ◌<◌, ◌≤◌, ◌==◌, ◌⊎◌, inl, inr, Bool, true, false, cond, Option, Some, None, List, [], ◌∷◌, is_none, refl, ap, sym, ◌∙◌, subst, arith, if◌then◌else◌}
+use Rattle.std.proofs.Common.{◌≡◌, ℕ, ◌+◌, ◌≤◌, ◌==◌, Bool, true, false, cond, Option, Some, None, List, [], ◌∷◌, is_none, refl, ap, sym, ◌∙◌, subst, arith, if◌then◌else◌}
 use Rattle.std.specs.Option.{option_and_then, option_map, option_map_or}
 use Rattle.std.proofs.lemmas.Grind.{common_steps}
 use Rattle.gl_calls.specs.declared.call.Call.{Call}
@@ -7,7 +7,6 @@ use Rattle.gl_calls.specs.declared.call.Call.TheVariants as call
 use Rattle.gl_calls.specs.declared.reply.Entry.{Entry}
 use Rattle.gl_calls.specs.declared.reply.Reply.{Reply}
 use Rattle.gl_calls.specs.declared.words.BindTarget.TheVariants as targets
-use Rattle.gl_calls.specs.declared.words.FormatWord.{FormatWord}
 use Rattle.gl_calls.specs.declared.words.ObjectKind.TheVariants as kinds
 use Rattle.tables.specs.Table.{Entries, entry, with_entry, only}
 use Rattle.gl_model.specs.declared.objects.BufferFacts.{BufferFacts}
@@ -18,10 +17,9 @@ use Rattle.gl_model.specs.declared.state.Names.{Names}
 use Rattle.gl_model.specs.GroupState.{opening_group}
 use Rattle.gl_model.specs.Bindings.{buffer_binding, current_entry}
 use Rattle.gl_model.specs.GroupEffect.{change_buffer, change_image, new_image, unmapped, delete_buffer, delete_texture, delete_renderbuffer, object_of, makes_object, gl_change, gl_change_in, group_effect}
-use Rattle.gl_model.specs.GroupModel.{GroupModel}
-use Rattle.gl_model.specs.Legal.{after_entry, refused_group}
-use Rattle.gl_model.specs.Reached.{reached, group_after, group_after_all}
-use Rattle.gl_model.specs.Refusal.{refusal, gl_refusal, gl_rows, bound_texture, bound_renderbuffer}
+use Rattle.gl_model.specs.Legal.{refused_group}
+use Rattle.gl_model.specs.Reached.{group_after, group_after_all}
+use Rattle.gl_model.specs.Refusal.{refusal, gl_refusal, gl_rows}
 use Rattle.gl_model.proofs.TableLaws.{entry-only, entry-with_entry}
 use Rattle.front_model.specs.Wanted.{HasFreeNumbers}
 use Rattle.front_model.proofs.Ranges.{none_holds}

@@ -1,7 +1,6 @@
 -- The stores that the objects are to have after a call.
-use Rattle.std.proofs.Common.{◌≡◌, ◌≢◌, ℕ, ℤ, ◌==◌, ◌||◌, Bool, true, false, cond, Option, Some, None, is_some, unsigned_abs, refl, ap, sym, ◌∙◌, subst, arith, if◌then◌else◌}
+use Rattle.std.proofs.Common.{◌≡◌, ◌≢◌, ℕ, ℤ, ◌==◌, ◌||◌, Bool, true, false, cond, Option, Some, None, is_some, unsigned_abs, refl, ap, ◌∙◌, subst, arith, if◌then◌else◌}
 use Rattle.std.specs.Option.{option_and_then, option_map, option_map_or}
-use Rattle.vk_types.specs.declared.handles.Kind.{Kind}
 use Rattle.gl_calls.specs.declared.call.Call.{Call}
 use Rattle.gl_calls.specs.declared.call.Call.TheVariants as call
 use Rattle.gl_calls.specs.declared.payload.Payload.{Payload}
@@ -12,7 +11,7 @@ use Rattle.gl_calls.specs.declared.reply.Reply.TheVariants as reply
 use Rattle.gl_calls.specs.declared.words.BufferTarget.{BufferTarget}
 use Rattle.gl_calls.specs.declared.words.Usage.{Usage}
 use Rattle.gl_calls.specs.Egl.{is_egl_call}
-use Rattle.tables.specs.Table.{Entries, entry, has, with_entry, only, any_value}
+use Rattle.tables.specs.Table.{entry, has, with_entry, any_value}
 use Rattle.gl_model.specs.declared.objects.BufferFacts.{BufferFacts}
 use Rattle.gl_model.specs.declared.objects.ImageInfo.{ImageInfo}
 use Rattle.gl_model.specs.declared.state.Attachment.TheVariants as attachments
@@ -21,7 +20,7 @@ use Rattle.gl_model.specs.declared.state.GroupState.{GroupState}
 use Rattle.gl_model.specs.Bindings.{buffer_binding, current_entry, same_option}
 use Rattle.gl_model.specs.GroupEffect.{change_buffer, swept, names_object, binds_buffer, attaches, with_context, gl_change, gl_change_in, group_effect}
 use Rattle.gl_model.specs.GroupModel.{GroupModel}
-use Rattle.gl_model.specs.Legal.{refused, refused_group, note_gl_error, with_gl_error}
+use Rattle.gl_model.specs.Legal.{refused, refused_group, with_gl_error}
 use Rattle.gl_model.specs.Sizes.{HasSizes}
 use Rattle.front_model.specs.Face.{Object, Buffer, Texture, Renderbuffer, put_object}
 use Rattle.front_model.specs.Wanted.{image_kind, buffer_kind, kind_wanted, exists, HasFreeNumbers, IsAccepted, IsBound}

@@ -1,6 +1,6 @@
 -- What a table says of the store of an object, after a change of the table and after a sweep.
 use Rattle.std.proofs.Common.{◌≡◌, ℕ, ◌==◌, Bool, true, false, cond, Option, Some, None, refl, ap, sym, ◌∙◌, arith, if◌then◌else◌}
-use Rattle.std.specs.Option.{option_and_then, option_map_or, option_map}
+use Rattle.std.specs.Option.{option_and_then, option_map_or}
 use Rattle.std.proofs.lemmas.Grind.{common_steps}
 use Rattle.tables.specs.Table.{Entries, entry, has, with_entry, only}
 use Rattle.gl_model.proofs.TableLaws.{entry-only, entry-with_entry}

@@ -1,5 +1,5 @@
 -- Which buffers are mapped after a call.
-use Rattle.std.proofs.Common.{◌≡◌, ◌≢◌, ◌⊎◌, inl, inr, ℕ, ℤ, ◌==◌, Bool, true, false, cond, Option, Some, None, unsigned_abs, refl, ap, sym, ◌∙◌, subst, arith, if◌then◌else◌}
+use Rattle.std.proofs.Common.{◌≡◌, ◌≢◌, ◌⊎◌, inl, inr, ℕ, ℤ, ◌==◌, Bool, true, false, cond, Option, Some, None, unsigned_abs, refl, ap, sym, ◌∙◌, arith, if◌then◌else◌}
 use Rattle.std.specs.Option.{option_map_or}
 use Rattle.std.proofs.lemmas.Grind.{common_steps}
 use Rattle.gl_calls.specs.declared.call.Call.{Call}
@@ -11,7 +11,7 @@ use Rattle.gl_calls.specs.declared.words.BindTarget.TheVariants as targets
 use Rattle.gl_calls.specs.declared.words.BufferTarget.{BufferTarget}
 use Rattle.gl_calls.specs.declared.words.ObjectKind.TheVariants as kinds
 use Rattle.gl_calls.specs.declared.words.Usage.{Usage}
-use Rattle.tables.specs.Table.{Entries, entry, with_entry, only}
+use Rattle.tables.specs.Table.{Entries, entry, with_entry}
 use Rattle.gl_model.specs.declared.objects.BufferFacts.{BufferFacts}
 use Rattle.gl_model.specs.declared.objects.Mapped.{Mapped}
 use Rattle.gl_model.specs.declared.state.Context.{Context}

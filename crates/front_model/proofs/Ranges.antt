@@ -1,5 +1,5 @@
 -- What a call names where it is accepted: of each row of its refusals the condition does not hold.
-use Rattle.std.proofs.Common.{◌≡◌, ℕ, ℤ, pos, negsuc, ◌+◌, ◌-◌, ◌<◌, ◌≤◌, ◌==◌, ◌&&◌, ◌||◌, ◌⊎◌, inl, inr, Bool, true, false, not, nat_lt, Option, Some, None, is_some, is_none, List, [], ◌∷◌, IfSome, unsigned_abs, refl, ap, sym, ◌∙◌, subst, arith, if◌then◌else◌}
+use Rattle.std.proofs.Common.{◌≡◌, ℕ, ℤ, pos, negsuc, ◌+◌, ◌<◌, ◌≤◌, ◌==◌, ◌&&◌, ◌||◌, ◌⊎◌, inl, inr, Bool, true, false, not, nat_lt, Option, Some, None, is_some, is_none, List, [], ◌∷◌, IfSome, unsigned_abs, refl, ap, sym, ◌∙◌, arith, if◌then◌else◌}
 use Rattle.std.specs.Option.{option_map_or}
 use Rattle.std.proofs.lemmas.Bool.{cases_lt}
 use Rattle.std.proofs.lemmas.Grind.{common_steps}
@@ -19,7 +19,7 @@ use Rattle.gl_model.specs.declared.state.GroupState.{GroupState}
 use Rattle.gl_model.specs.Bindings.{current_context, buffer_binding, buffer_of, bound_buffer, same_option}
 use Rattle.gl_model.specs.BufferRows.{size_of, map_len, is_mapped, is_past, gap}
 use Rattle.gl_model.specs.GroupModel.{GroupModel}
-use Rattle.gl_model.specs.Refusal.{refusal, gl_refusal, gl_rows}
+use Rattle.gl_model.specs.Refusal.{gl_refusal, gl_rows}
 use Rattle.gl_model.specs.RefusalRows.{Row, first_row, is_negative}
 use Rattle.gl_model.specs.Sizes.{HasSizes}
 use Rattle.front_model.specs.Wanted.{IsAccepted, IsBound, HasBound, HasMapRange, IsPositive}
@@ -141,11 +141,17 @@ copy_range state thread context from to read write size accepted =
     let free = neither (is_mapped (bound_buffer group context from)) (is_mapped (bound_buffer group context to)) rows.1.1.1.0 in
     let short = neither (is_past read (unsigned_abs size) (size_of (bound_buffer group context from))) (is_past write (unsigned_abs size) (size_of (bound_buffer group context to))) rows.1.1.1.1.0 in
     found group context from (λ r source. (source.map ≡ None) × (unsigned_abs read + unsigned_abs size ≤ source.size) × HasBound group context to (λ w target. (target.map ≡ None) × (unsigned_abs write + unsigned_abs size ≤ target.size) × (r ≡ w → (unsigned_abs read + unsigned_abs size ≤ unsigned_abs write) ⊎ (unsigned_abs write + unsigned_abs size ≤ unsigned_abs read)))) some.0
-    (λ r source bound is. (free_map is free.0, in_size read (unsigned_abs size) is short.0,
-    found group context to (λ w target. (target.map ≡ None) × (unsigned_abs write + unsigned_abs size ≤ target.size) × (r ≡ w → (unsigned_abs read + unsigned_abs size ≤ unsigned_abs write) ⊎ (unsigned_abs write + unsigned_abs size ≤ unsigned_abs read))) some.1
-    (λ w target other there. (free_map there free.1, in_size write (unsigned_abs size) there short.1,
-    λ same. ranges_apart (same_option (buffer_binding context from) (buffer_binding context to)) (unsigned_abs read) (unsigned_abs write) (unsigned_abs size) rows.1.1.1.1.1.0
-    (same_numbers r w bound.bound other.bound same)))))
+    (λ r source bound is. (
+      free_map is free.0,
+      in_size read (unsigned_abs size) is short.0,
+      found group context to (λ w target. (target.map ≡ None) × (unsigned_abs write + unsigned_abs size ≤ target.size) × (r ≡ w → (unsigned_abs read + unsigned_abs size ≤ unsigned_abs write) ⊎ (unsigned_abs write + unsigned_abs size ≤ unsigned_abs read))) some.1
+          (λ w target other there. (
+            free_map there free.1,
+            in_size write (unsigned_abs size) there short.1,
+            λ same. ranges_apart (same_option (buffer_binding context from) (buffer_binding context to)) (unsigned_abs read) (unsigned_abs write) (unsigned_abs size) rows.1.1.1.1.1.0
+                (same_numbers r w bound.bound other.bound same),
+          )),
+    ))
 
 not_zero : (n : ℕ) → (n == 0) ≡ false → 1 ≤ n
 not_zero n h = grind (arith, common_steps)

@@ -1,5 +1,5 @@
 -- Bytes that agree with what is seen are an answer to a read through a map.
-use Rattle.std.proofs.Common.{◌≡◌, ℕ, ℤ, ◌+◌, ◌<◌, ◌≤◌, zero, suc, Option, Some, None, List, [], ◌∷◌, length, unsigned_abs, refl, ap, sym, ◌∙◌, subst, arith}
+use Rattle.std.proofs.Common.{◌≡◌, ℕ, ℤ, ◌+◌, ◌<◌, ◌≤◌, suc, Option, Some, List, [], ◌∷◌, length, unsigned_abs, ap, sym, ◌∙◌, subst, arith}
 use Rattle.std.specs.Option.{option_map_or}
 use Rattle.cells.specs.Contents.{Content, cells, cell_at, Agrees, part}
 use Rattle.gl_calls.specs.declared.call.Call.TheVariants as call

@@ -1,7 +1,7 @@
 -- What OpenGL ES says that the objects hold, and when a front stands on a state.
-use Rattle.std.specs.Prelude.{◌≡◌, ◌≢◌, ℕ, ℤ, ◌+◌, ◌-◌, ◌<◌, ◌≤◌, ◌==◌, ◌⊎◌, Bool, true, if◌then◌else◌, Option, Some, None, unsigned_abs, pos, nat_lt, slice_index, length, List, unwrap_or}
+use Rattle.std.specs.Prelude.{◌≡◌, ℕ, ℤ, ◌+◌, ◌-◌, ◌<◌, ◌≤◌, ◌==◌, Bool, if◌then◌else◌, Option, Some, None, unsigned_abs, pos, slice_index, length, List}
 use Rattle.std.specs.Option.{option_map, option_and_then}
-use Rattle.cells.specs.Contents.{Content, cell_at, in_range}
+use Rattle.cells.specs.Contents.{cell_at, in_range}
 use Rattle.formats.specs.Pairs.{format_number}
 use Rattle.vk_types.specs.declared.handles.Kind.{Kind}
 use Rattle.vk_types.specs.declared.handles.Kind.TheVariants as kind
