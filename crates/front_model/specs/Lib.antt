@@ -1,3 +1,5 @@
 pub mod Face
 pub mod Stands
 pub mod Steps
+pub mod Wanted
+pub mod Calls

@@ -2,8 +2,13 @@
 //! back: the steps of which its moves are made keep that, and change what its objects hold as they say.
 #![tactic(auto)]
 
+mod state_laws;
 mod step_laws;
 mod view_laws;
 
+pub use state_laws::{
+    accepted_calls_are_in_range, calls_keep_agreement, calls_keep_stores,
+    numbers_not_given_are_free, reads_through_a_map_answer,
+};
 pub use step_laws::{quiet_objects_stay, steps_hold, steps_may};
 pub use view_laws::{fenced_nodes_stay_sound, front_steps_show, link_steps_show};
