@@ -1,6 +1,6 @@
 -- What the calls of the link need follows from what holds of a front.
-use Rattle.std.proofs.Common.{◌≡◌, ◌≢◌, ℕ, ◌+◌, ◌<◌, ◌≤◌, Bool, true, false, List, [], ◌++◌, length, flat_map, refl, sym, ◌∙◌, ap, subst, arith, inl, inr}
-use Rattle.std.specs.Prelude.{◌⊎◌, Option, Some, All, slice_get}
+use Rattle.std.proofs.Common.{◌≡◌, ◌≢◌, ℕ, ◌+◌, ◌<◌, ◌≤◌, true, false, List, [], ◌++◌, length, flat_map, sym, ◌∙◌, ap, subst, arith, inl, inr}
+use Rattle.std.specs.Prelude.{◌⊎◌, Some, All, slice_get}
 use Rattle.std.proofs.lemmas.Bool.{cases_Bool, false_from_ne_true, cond-true, cond-false}
 use Rattle.vk_types.specs.declared.handles.Kind.{Kind}
 use Rattle.vk_types.specs.declared.handles.Kind.TheVariants.{Buffer}
@@ -11,11 +11,11 @@ use Rattle.vk_model.specs.Log.{IsSound, NoneEmpty, commands}
 use Rattle.vk_model.specs.Fitting.{HasRange, NodeFits}
 use Rattle.resource_use.specs.Uses.{number_of}
 use Rattle.submit_queue.specs.Histories.{last_number}
-use Rattle.back_core.specs.Own.{log_of, batches_of, batch_touches, last_use, next_number}
+use Rattle.back_core.specs.Own.{log_of, batches_of, last_use, next_number}
 use Rattle.back_core.specs.Link.{Link, put, abandoned}
 use Rattle.back_core.specs.Needs.{IsOfGroup, HostMay, MayTouch, MayEnqueue, MayGive, HasBatch}
 use Rattle.front_model.specs.Face.{Object, Waiting, Slot, Stored, Face, nodes_touch, indexes_of}
-use Rattle.front_model.specs.Stands.{Hands, Owner, Store, Staging, InHand, use_of, StagingStands, Holds, IsQuiet, Owns}
+use Rattle.front_model.specs.Stands.{Hands, Store, Staging, InHand, StagingStands, Holds, IsQuiet, Owns}
 use Rattle.front_model.specs.Steps.{fresh_slot, AreUses, IsNextBatch}
 use Rattle.front_model.proofs.Base.{put-other}
 use Rattle.front_model.proofs.Sounds.{sound_front}

@@ -1,18 +1,18 @@
 -- The steps on one object keep what holds: it begins and ends, and what waits on it is put and taken out.
-use Rattle.std.proofs.Common.{◌≡◌, ◌≢◌, ℕ, ◌+◌, ◌-◌, ◌<◌, ◌≤◌, zero, suc, Bool, true, false, cond, List, [], ◌∷◌, ◌++◌, length, refl, sym, ◌∙◌, ap, subst, arith, inl, inr}
-use Rattle.std.specs.Prelude.{◌⊎◌, ◌&&◌, nat_lt, Option, Some, None, IfSome, IsSome, slice_get}
-use Rattle.std.proofs.lemmas.Bool.{cases_eq, cond-true, cond-false, and_left, and_right, and_from, lt-ltb, le-ltb}
+use Rattle.std.proofs.Common.{◌≡◌, ◌≢◌, ℕ, [], length, refl, sym, ◌∙◌, ap, subst, inl, inr}
+use Rattle.std.specs.Prelude.{◌⊎◌, Option, Some, None, IsSome, slice_get}
+use Rattle.std.proofs.lemmas.Bool.{cases_eq}
 use Rattle.std.proofs.lemmas.Option.{none-some, same_Some}
 use Rattle.vk_types.specs.declared.handles.Kind.{Kind}
 use Rattle.vk_types.specs.declared.ops.Node.{Node}
 use Rattle.vk_model.specs.Log.{NoneEmpty}
 use Rattle.vk_model.specs.Fitting.{NodeFits}
 use Rattle.back_core.specs.Link.{Link, put}
-use Rattle.front_model.specs.Face.{Object, Waiting, Slot, Stored, Face, same_object, put_object, IsUpdate}
-use Rattle.front_model.specs.Stands.{Hands, Owner, Store, Staging, InHand, SlotStands, StagingStands, WaitingStands, StoredStands, HandStands, HasHandle, Holds}
-use Rattle.front_model.specs.Steps.{fresh_slot, with_object, stored_as, with_waiting, without_place, taken_from}
-use Rattle.front_model.proofs.Base.{put-same, put-other, put_at, put_is, put-some, is_some_of, same_object-self, same_object-other, cases_object, put_object-same, put_object-other, put_object_is, push_is, push_at, push_keeps}
-use Rattle.front_model.proofs.Standing.{SameSlot, slot_kept, waiting_kept, stored_kept, hand_kept, staging_stands, handle_owner, not_in_hand}
+use Rattle.front_model.specs.Face.{Object, Waiting, Slot, Stored, Face, IsUpdate}
+use Rattle.front_model.specs.Stands.{Hands, Owner, Store, Staging, InHand, WaitingStands, StoredStands, HandStands, HasHandle, Holds}
+use Rattle.front_model.specs.Steps.{fresh_slot, with_object, stored_as, with_waiting}
+use Rattle.front_model.proofs.Base.{put-same, put-other, put_at, put_is, put-some, is_some_of, cases_object, put_object-same, put_object-other, put_object_is, push_is, push_at, push_keeps}
+use Rattle.front_model.proofs.Standing.{SameSlot, slot_kept, waiting_kept, stored_kept, hand_kept, handle_owner, not_in_hand}
 
 -- whose the handles of an object are
 abbrev pub IsOwnedBy : (ℕ → Owner) → Object → ℕ → Type 0

@@ -1,28 +1,27 @@
 -- An object that is quiet stays so.
-use Rattle.std.proofs.Common.{◌≡◌, ◌≢◌, ℕ, ◌+◌, ◌<◌, ◌≤◌, ◌==◌, zero, suc, Bool, true, false, cond, List, get_or, [], ◌∷◌, ◌++◌, length, refl, sym, ◌∙◌, ap, subst, arith, inl, inr, append-nil}
-use Rattle.std.specs.Prelude.{◌⊎◌, ◌&&◌, ◌||◌, Option, Some, None, map, slice_get}
+use Rattle.std.proofs.Common.{◌≡◌, ◌≢◌, ℕ, ◌+◌, ◌≤◌, ◌==◌, zero, suc, true, false, List, [], ◌∷◌, ◌++◌, length, refl, sym, ◌∙◌, ap, subst, arith, inl, inr}
+use Rattle.std.specs.Prelude.{Option, Some, None, map, slice_get}
 use Rattle.std.specs.List.{list_any}
 use Rattle.std.specs.Option.{option_map}
-use Rattle.std.proofs.lemmas.Bool.{cases_eq, cases_Bool, both_ways, and_parts, or_cases, or_left, or_right, eqb-true, eq-eqb, cond-false, or_from, or_parts}
-use Rattle.std.proofs.lemmas.Option.{none-some, same_Some, slice_get-map, slice_get_within}
+use Rattle.std.proofs.lemmas.Bool.{both_ways, and_parts, or_cases, or_left, or_right, or_from, or_parts}
+use Rattle.std.proofs.lemmas.Option.{none-some, same_Some, slice_get_within}
 use Rattle.vk_types.specs.declared.handles.HandleId.{HandleId}
 use Rattle.vk_types.specs.declared.handles.Kind.{Kind}
 use Rattle.vk_types.specs.declared.regions.Touch.{Touch}
-use Rattle.vk_types.specs.declared.regions.Barrier.{Barrier}
 use Rattle.vk_types.specs.declared.batches.Batch.{Batch}
 use Rattle.vk_types.specs.declared.batches.QueueSerial.{QueueSerial}
 use Rattle.vk_types.specs.declared.ops.Node.{Node}
-use Rattle.vk_types.specs.Accesses.{all_access, host_read, in_common}
+use Rattle.vk_types.specs.Accesses.{all_access}
 use Rattle.vk_types.specs.Touches.{touches, barrier_of}
-use Rattle.vk_model.specs.Log.{Item, Command, HostWrite, Range, commands, touches_object, node_range, node_ranges, clash}
-use Rattle.back_core.specs.Own.{Own, HostWrote, Enqueued, HostRead, log_by, log_of, batch_by, batch_touches, last_use, writes_in, HasHostBarrier, IsReadable}
-use Rattle.back_core.specs.Link.{Link, Asked, put, created, wrote, enqueued, fetched, gave}
+use Rattle.vk_model.specs.Log.{Item, Command, HostWrite, commands, touches_object, node_range, clash}
+use Rattle.back_core.specs.Own.{Own, HostWrote, Enqueued, HostRead, log_by, log_of, batch_by, batch_touches, last_use, HasHostBarrier, IsReadable}
+use Rattle.back_core.specs.Link.{Link, Asked, created, wrote, enqueued, fetched, gave}
 use Rattle.back_core.specs.Needs.{IsFresh}
 use Rattle.back_core.specs.Answers.{Learns}
 use Rattle.front_model.specs.Face.{Object, Stored, Face, nodes_touch}
 use Rattle.front_model.specs.Stands.{Hands, Holds, IsQuiet}
 use Rattle.front_model.specs.Steps.{full_barrier, noted_store, with_nodes, IsNextBatch, flushed, with_object}
-use Rattle.front_model.proofs.Base.{put-same, put-other, put_holds, map_is, put_object-other, push_at, nodes_touch-append}
+use Rattle.front_model.proofs.Base.{put_holds, put_object-other, push_at, nodes_touch-append}
 use Rattle.front_model.proofs.Uses.{log_then, use_stays, use_apart}
 use Rattle.front_model.proofs.Sounds.{get_left, get_either}
 

@@ -1,17 +1,17 @@
 -- What waits on an object is taken out, and what waits behind it moves down by one place.
-use Rattle.std.proofs.Common.{◌≡◌, ◌≢◌, ℕ, ◌+◌, ◌-◌, ◌<◌, ◌≤◌, zero, suc, Bool, true, false, cond, List, [], ◌∷◌, ◌++◌, length, refl, sym, ◌∙◌, ap, subst, arith, inl, inr}
-use Rattle.std.specs.Prelude.{◌⊎◌, ◌&&◌, nat_lt, Option, Some, None, IfSome, IsSome, slice_get}
+use Rattle.std.proofs.Common.{◌≡◌, ◌≢◌, ℕ, ◌-◌, ◌<◌, ◌≤◌, zero, suc, cond, List, [], ◌∷◌, refl, sym, ◌∙◌, ap, subst, arith, inl, inr}
+use Rattle.std.specs.Prelude.{◌⊎◌, ◌&&◌, nat_lt, Some, slice_get}
 use Rattle.std.proofs.lemmas.Bool.{cases_eq, cond-true, cond-false, and_left, and_right, and_from, lt-ltb, le-ltb}
 use Rattle.std.proofs.lemmas.Option.{none-some, same_Some}
 use Rattle.vk_types.specs.declared.handles.Kind.{Kind}
 use Rattle.vk_types.specs.declared.ops.Node.{Node}
 use Rattle.back_core.specs.Link.{Link, put}
-use Rattle.front_model.specs.Face.{Object, Waiting, Slot, Stored, Face, same_object}
-use Rattle.front_model.specs.Stands.{Hands, Owner, Store, Staging, InHand, SlotStands, StagingStands, WaitingStands, StoredStands, HandStands, HasHandle, Holds}
+use Rattle.front_model.specs.Face.{Object, Waiting, Stored, Face, same_object}
+use Rattle.front_model.specs.Stands.{Hands, Owner, Store, Staging, InHand, StagingStands, StoredStands, HasHandle, Holds}
 use Rattle.front_model.specs.Steps.{fresh_slot, with_object, without_place, taken_from}
 use Rattle.front_model.proofs.Base.{put-same, put-other, put_at, put-some, is_some_of, same_object-self, same_object-other}
-use Rattle.front_model.proofs.Standing.{SameSlot, slot_kept, waiting_kept, hand_kept, staging_stands}
-use Rattle.front_model.proofs.ObjectSteps.{IsOwnedBy, IsHere, object_apart, exchanged, hands_got}
+use Rattle.front_model.proofs.Standing.{SameSlot, slot_kept, waiting_kept, staging_stands}
+use Rattle.front_model.proofs.ObjectSteps.{object_apart, exchanged, hands_got}
 
 -- A list without one of its places
 

@@ -1,4 +1,3 @@
-use Rattle.std.proofs.Common.{refl}
 use Rattle.front_model.proofs.LinkSteps.{new_holds, created_holds, wrote_holds, fetched_holds, learned_holds, gave_holds}
 use Rattle.front_model.proofs.ObjectSteps.{begun_holds, ended_holds, staged_holds}
 use Rattle.front_model.proofs.Taking.{taken_holds}
