@@ -1,0 +1,5 @@
+use Rattle.front_model.proofs.Barriers.{barrier_shows, barrier_next, node_sound, whole_one}
+use Rattle.front_model.proofs.view_laws.fenced_nodes_stay_sound.Goals as goal
+
+pub returns : goal.returns
+returns c = record { node = node_sound; barrier = barrier_next; one_queue = whole_one; shows = barrier_shows }
