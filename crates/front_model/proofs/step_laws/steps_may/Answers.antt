@@ -1,4 +1,4 @@
-use Rattle.front_model.proofs.Needs.{may_enqueue, may_give, has_batch, may_write_fresh, fresh_untouched, host_may, objects_distinct, in_no_object, holds_owns, abandoned_owns}
+use Rattle.front_model.proofs.Needs.{may_enqueue, may_give, has_batch, hand_has_batch, hand_may, staging_kind, may_write_fresh, fresh_untouched, host_may, objects_distinct, in_no_object, holds_owns, abandoned_owns}
 use Rattle.front_model.proofs.step_laws.steps_may.Goals as goal
 
 pub returns : goal.returns
@@ -15,4 +15,7 @@ returns c = record {
   in_no_object = λ f hands s o b id slot h. in_no_object f hands s h o b id slot;
   owns = λ f hands s h. holds_owns f hands s h;
   lets_go = λ f hands s id slot h. abandoned_owns f hands s h id slot;
+  wait_hand = λ f hands s id slot index h. hand_has_batch f hands s h id slot index;
+  host_hand = λ f hands s id slot len at size h. hand_may f hands s h id slot len at size;
+  staging = staging_kind;
 }
