@@ -120,7 +120,7 @@ module _ (f : Face) (s : Link) (owner : ℕ → Owner) (o : Object) where
   handle_held b id stands (inl is) = ap s.held (sym is) ∙ stands.slot.held
   handle_held b id stands (inr has) = (staging_stands b.handle has.0 id has.1 has.3 (stands.waiting has.0 has.1 has.2)).held
 
-  -- it has its kind
+  -- it is its store, or one of its staging buffers
   pub handle_owner : (b : Stored) (id : ℕ) → StoredStands f s owner o b → HasHandle b id → (owner id ≡ Store o) ⊎ ((place : ℕ) × (owner id ≡ Staging o place))
   handle_owner b id stands (inl is) = inl (ap owner (sym is) ∙ stands.owned)
   handle_owner b id stands (inr has) = inr (has.0, (staging_stands b.handle has.0 id has.1 has.3 (stands.waiting has.0 has.1 has.2)).owned)
