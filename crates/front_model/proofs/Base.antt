@@ -1,5 +1,5 @@
 -- Small laws that the steps share: a value put at one place, objects, options, and nodes that touch.
-use Rattle.std.proofs.Common.{◌≡◌, ◌≢◌, ℕ, ◌+◌, ◌<◌, ◌≤◌, zero, suc, Bool, true, false, List, [], ◌∷◌, ◌++◌, length, refl, sym, ◌∙◌, ap, subst, arith, inl, inr}
+use Rattle.std.proofs.Common.{◌≡◌, ◌≢◌, ℕ, zero, suc, Bool, true, false, List, [], ◌∷◌, ◌++◌, length, refl, sym, ◌∙◌, ap, subst, inl, inr}
 use Rattle.std.specs.Prelude.{◌==◌, ◌||◌, ◌⊎◌, Option, Some, None, IsSome, is_some, slice_get}
 use Rattle.std.specs.Option.{option_map}
 use Rattle.std.proofs.lemmas.Bool.{cases_eq, cases_Bool, cond-true, cond-false, eq-eqb, ne_eqb, eqb-true, both_ways}
@@ -26,12 +26,6 @@ pub put_is : {A : Type 0} → (f : ℕ → A) (k : ℕ) (v : A) (i : ℕ) (x : A
 put_is f k v i x at = elim (cases_eq i k) [
   | inl same ↦ inl (same, sym (put_at f k v i same) ∙ at)
   | inr other ↦ inr (other, sym (put-other f k v i other) ∙ at)
-]
-
-pub put_some_is : {A : Type 0} → (f : ℕ → Option A) (k : ℕ) (v : Option A) (i : ℕ) → IsSome (put f k v i) → ((i ≡ k) × IsSome v) ⊎ ((i ≢ k) × IsSome (f i))
-put_some_is f k v i some = elim (cases_eq i k) [
-  | inl same ↦ inl (same, subst IsSome (put_at f k v i same) some)
-  | inr other ↦ inr (other, subst IsSome (put-other f k v i other) some)
 ]
 
 pub put-some : {A : Type 0} → (f : ℕ → Option A) (k : ℕ) (v : A) (i : ℕ) → IsSome (f i) → IsSome (put f k (Some v) i)
@@ -109,9 +103,6 @@ is_some_of o x e = ap is_some e
 pub some_is : {A : Type 0} (o : Option A) → IsSome o → (x : A) × (o ≡ Some x)
 some_is None some = let no : false ≡ true = some in cc
 some_is (Some x) some = (x, refl)
-
-pub not_some : {A : Type 0} (o : Option A) → o ≡ None → IsSome o → ⊥
-not_some o e some = let n : is_some o ≡ false = ap is_some e in cc
 
 -- Lists
 

@@ -1,28 +1,26 @@
 -- The steps of the link keep what holds: beginning, making, writing, reading, learning and giving.
-use Rattle.std.proofs.Common.{◌≡◌, ◌≢◌, ℕ, ◌+◌, ◌*◌, ◌<◌, ◌≤◌, Bool, true, false, List, [], ◌∷◌, ◌++◌, length, refl, sym, ◌∙◌, ap, subst, arith, inl, inr, append_assoc, append-nil}
-use Rattle.std.specs.Prelude.{◌⊎◌, Option, Some, None, IfSome, IsSome, All, slice_get, if◌then◌else◌}
+use Rattle.std.proofs.Common.{◌≡◌, ◌≢◌, ℕ, ◌+◌, ◌*◌, ◌<◌, ◌≤◌, true, false, List, [], ◌∷◌, ◌++◌, refl, sym, ◌∙◌, ap, subst, arith, inl, inr, append_assoc, append-nil}
+use Rattle.std.specs.Prelude.{◌⊎◌, Option, Some, None, IsSome, if◌then◌else◌}
 use Rattle.std.proofs.lemmas.Bool.{cases_Bool, cases_eq, cases_lt, both_ways, false_from_ne_true, cond-true, cond-false}
 use Rattle.std.proofs.lemmas.Option.{none-some, same_Some}
 use Rattle.std.proofs.lemmas.List.Elements.{All-nil, All-weaker}
 use Rattle.vk_types.specs.declared.handles.Kind.{Kind}
-use Rattle.vk_types.specs.declared.ops.Node.{Node}
 use Rattle.vk_types.specs.declared.batches.QueueSerial.{QueueSerial}
-use Rattle.vk_types.specs.Touches.{barrier_of}
-use Rattle.vk_model.specs.Log.{Item, Command, HostWrite, IsSound, NoneEmpty, NamesAll, commands}
+use Rattle.vk_model.specs.Log.{Command, HostWrite, IsSound, NoneEmpty, commands}
 use Rattle.vk_model.specs.Fitting.{NodeFits}
 use Rattle.resource_use.specs.Uses.{number_of}
 use Rattle.submit_queue.specs.Histories.{last_number}
-use Rattle.back_core.specs.Own.{Own, HostWrote, Enqueued, HostRead, log_of, batch_by, batches_of, last_use}
+use Rattle.back_core.specs.Own.{Own, HostWrote, HostRead, log_of, batch_by, batches_of, last_use}
 use Rattle.back_core.specs.Link.{Link, Asked, IsNew, put, created, wrote, fetched, gave}
 use Rattle.back_core.specs.Needs.{IsOfGroup, IsFresh, MayTouch}
 use Rattle.back_core.specs.Answers.{Learns}
-use Rattle.front_model.specs.Face.{Object, Waiting, Slot, Stored, Face, nodes_touch, in_order, whole_log}
-use Rattle.front_model.specs.Stands.{Hands, no_hands, Owner, Store, Staging, InHand, use_of, SlotStands, StoredStands, HandStands, HasHandle, IsPastUse, HaveFullBarriers, Holds, new_face}
+use Rattle.front_model.specs.Face.{Slot, Face, nodes_touch, in_order, whole_log}
+use Rattle.front_model.specs.Stands.{Hands, no_hands, Owner, InHand, use_of, HandStands, IsPastUse, HaveFullBarriers, Holds, new_face}
 use Rattle.front_model.specs.Steps.{fresh_slot, AreUses}
-use Rattle.front_model.proofs.Base.{put-same, put-other, put_at, put_is, put_some_is, put-some, put-true, is_some_of}
+use Rattle.front_model.proofs.Base.{put-same, put-other, put_at, put_is, put-some, put-true, is_some_of}
 use Rattle.front_model.proofs.Uses.{log_then, use_stays, number_stays, use_none}
 use Rattle.front_model.proofs.Sounds.{sound_with_write, barriers_left, barriers_right, barriers-append, barriers_write}
-use Rattle.front_model.proofs.Standing.{KindsGrow, fits_more, SameSlot, slot_kept, stored_kept, hand_kept, handle_held, not_in_hand}
+use Rattle.front_model.proofs.Standing.{KindsGrow, fits_more, SameSlot, stored_kept, hand_kept, handle_held, not_in_hand}
 
 -- the indexes of a group are decided
 pub own_or_not : (group index : ℕ) → IsOfGroup group index ⊎ (IsOfGroup group index → ⊥)
@@ -294,8 +292,8 @@ gave_holds f hands s id slot uses h at are =
       ap (nodes_touch (f.pending index)) is ∙ touch,
     )
     past j index v is same number (inr none) = inl (
-      let n : number_of v index ≡ last_use s.mine index id
-      = ap (λ l. number_of l index) (sym same) ∙ number ∙ cond-false (nodes_touch (f.pending index) id) (f.last index + 1) (last_use s.mine index id) none in
-      let low : last_use s.mine index id ≤ last_number (batches_of s.mine) index = h.low index id in
-      omega (arith, n, low)
-    )
+        let n : number_of v index ≡ last_use s.mine index id
+        = ap (λ l. number_of l index) (sym same) ∙ number ∙ cond-false (nodes_touch (f.pending index) id) (f.last index + 1) (last_use s.mine index id) none in
+        let low : last_use s.mine index id ≤ last_number (batches_of s.mine) index = h.low index id in
+        omega (arith, n, low)
+        )

@@ -1,18 +1,18 @@
 -- The steps on one object keep what holds: it begins and ends, and what waits on it is put and taken out.
-use Rattle.std.proofs.Common.{◌≡◌, ◌≢◌, ℕ, ◌+◌, ◌-◌, ◌<◌, ◌≤◌, zero, suc, Bool, true, false, cond, List, [], ◌∷◌, ◌++◌, length, refl, sym, ◌∙◌, ap, subst, arith, inl, inr}
-use Rattle.std.specs.Prelude.{◌⊎◌, ◌&&◌, nat_lt, Option, Some, None, IfSome, IsSome, slice_get}
-use Rattle.std.proofs.lemmas.Bool.{cases_eq, cond-true, cond-false, and_left, and_right, and_from, lt-ltb, le-ltb}
+use Rattle.std.proofs.Common.{◌≡◌, ◌≢◌, ℕ, [], length, refl, sym, ◌∙◌, ap, subst, inl, inr}
+use Rattle.std.specs.Prelude.{◌⊎◌, Option, Some, None, IsSome, slice_get}
+use Rattle.std.proofs.lemmas.Bool.{cases_eq}
 use Rattle.std.proofs.lemmas.Option.{none-some, same_Some}
 use Rattle.vk_types.specs.declared.handles.Kind.{Kind}
 use Rattle.vk_types.specs.declared.ops.Node.{Node}
 use Rattle.vk_model.specs.Log.{NoneEmpty}
 use Rattle.vk_model.specs.Fitting.{NodeFits}
 use Rattle.back_core.specs.Link.{Link, put}
-use Rattle.front_model.specs.Face.{Object, Waiting, Slot, Stored, Face, same_object, put_object, IsUpdate}
-use Rattle.front_model.specs.Stands.{Hands, Owner, Store, Staging, InHand, SlotStands, StagingStands, WaitingStands, StoredStands, HandStands, HasHandle, Holds}
-use Rattle.front_model.specs.Steps.{fresh_slot, with_object, stored_as, with_waiting, without_place, taken_from}
-use Rattle.front_model.proofs.Base.{put-same, put-other, put_at, put_is, put-some, is_some_of, same_object-self, same_object-other, cases_object, put_object-same, put_object-other, put_object_is, push_is, push_at, push_keeps}
-use Rattle.front_model.proofs.Standing.{SameSlot, slot_kept, waiting_kept, stored_kept, hand_kept, staging_stands, handle_owner, not_in_hand}
+use Rattle.front_model.specs.Face.{Object, Waiting, Slot, Stored, Face, IsUpdate}
+use Rattle.front_model.specs.Stands.{Hands, Owner, Store, Staging, InHand, WaitingStands, StoredStands, HandStands, HasHandle, Holds}
+use Rattle.front_model.specs.Steps.{fresh_slot, with_object, stored_as, with_waiting}
+use Rattle.front_model.proofs.Base.{put-same, put-other, put_at, put_is, put-some, is_some_of, cases_object, put_object-same, put_object-other, put_object_is, push_is, push_at, push_keeps}
+use Rattle.front_model.proofs.Standing.{SameSlot, slot_kept, waiting_kept, stored_kept, hand_kept, handle_owner, not_in_hand}
 
 -- whose the handles of an object are
 abbrev pub IsOwnedBy : (ℕ → Owner) → Object → ℕ → Type 0
@@ -184,3 +184,36 @@ staged_holds f hands s o b id kind node h at hand fits some update =
     ])
     h
     (λ q j ne own. other j (λ k. elim own [ inl l ↦ cc | inr l ↦ let m : h.owner j ≡ Staging q l.0 = l.1 in cc ]))
+
+-- A clear waits, which has no staging buffer
+
+pub staged_clear_holds : (f : Face) (hands : Hands) (s : Link) (o : Object) (b : Stored) (node : Node) → Holds f hands s → f.objects o ≡ Some b
+    → NodeFits s.kinds node → NoneEmpty node → IsUpdate None b.handle node.op
+    → Holds (with_object f o (Some (with_waiting b (record { staging = None; node = node })))) hands s
+staged_clear_holds f hands s o b node h at fits some update =
+    let w : Waiting = record { staging = None; node = node } in
+    let c : Stored = with_waiting b w in
+    let g : Face = with_object f o (Some c) in
+    let u = h.objects o b at in
+    let same : (j : ℕ) → SameSlot f g s s j = object_apart f s o (Some c) in
+    let last : (p : ℕ) → WaitingStands g s h.owner o b.handle p w = λ p. record { staging = tt; fits = fits; none_empty = some; update = update } in
+    let own : StoredStands g s h.owner o c = record {
+      slot = slot_kept f g s s b.handle b.slot (same b.handle) u.slot;
+      owned = u.owned;
+      waiting = λ p x at. elim (push_is b.waiting w p x at) [
+        | inl e ↦ subst (WaitingStands g s h.owner o b.handle p) e.1 (last p)
+        | inr e ↦ waiting_kept f g s s h.owner h.owner (λ i kind at. at) o b.handle p p x (λ i is. same i) (λ i is of. of) (u.waiting p x e)
+      ];
+    } in
+    exchanged f hands hands s o (Some c) h.owner
+    (λ d is. subst (StoredStands g s h.owner o) (same_Some c d is) own)
+    (λ j slot hand. hand_kept f g s s h.owner h.owner (λ i kind at. at) j slot (same j) refl (h.hands_stand j slot hand))
+    (λ j known. elim known [
+      | inl hand ↦ inl hand
+      | inr has ↦ let is : has.0 ≡ b = same_Some has.0 b (sym has.1 ∙ at) in elim (subst (λ d. HasHandle d j) is has.2) [
+        | inl e ↦ inr (c, refl, inl e)
+        | inr e ↦ inr (c, refl, inr (e.0, e.1, push_keeps b.waiting w e.0 e.1 e.2, e.3))
+      ]
+    ])
+    h
+    (λ q j ne own. refl)

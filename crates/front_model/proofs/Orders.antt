@@ -1,6 +1,6 @@
 -- The pending nodes of all contexts as one list: those of one context change places with the others'.
-use Rattle.std.proofs.Common.{◌≡◌, ◌≢◌, ℕ, ◌+◌, ◌*◌, ◌<◌, ◌≤◌, zero, suc, List, [], ◌∷◌, ◌++◌, length, true, false, refl, sym, ◌∙◌, ap, subst, arith, inl, inr}
-use Rattle.std.specs.Prelude.{◌⊎◌, map, All}
+use Rattle.std.proofs.Common.{◌≡◌, ◌≢◌, ℕ, ◌+◌, ◌*◌, ◌<◌, ◌≤◌, zero, suc, List, [], ◌∷◌, ◌++◌, false, refl, sym, ◌∙◌, ap, subst, arith, inl, inr}
+use Rattle.std.specs.Prelude.{All}
 use Rattle.std.specs.List.{flat_map, range_with_len, AllByRecursion}
 use Rattle.std.proofs.lemmas.Bool.{cases_eq}
 use Rattle.std.proofs.lemmas.List.{append-nil, append_assoc, map-append}
@@ -20,10 +20,6 @@ use Rattle.front_model.proofs.Sounds.{barriers_left, barriers_right, barriers-ap
 pub each-append : {X : Type 0} (P : X → Type 0) (xs ys : List X) → AllByRecursion P xs → AllByRecursion P ys → AllByRecursion P (xs ++ ys)
 each-append P [] ys a b = b
 each-append P (x ∷ xs) ys a b = (a.0, each-append P xs ys a.1 b)
-
-each_weaker : {X : Type 0} (P Q : X → Type 0) → ((x : X) → P x → Q x) → (xs : List X) → AllByRecursion P xs → AllByRecursion Q xs
-each_weaker P Q more [] a = tt
-each_weaker P Q more (x ∷ xs) a = (more x a.0, each_weaker P Q more xs a.1)
 
 -- Lists that do not conflict
 
@@ -145,15 +141,15 @@ to_front : ChangePlaces → (log : List Item) (xs ys zs : List Node) → AllByRe
     → IsSound (log ++ commands 0 (xs ++ (ys ++ zs))) → IsSound ((log ++ commands 0 ys) ++ commands 0 (xs ++ zs))
 to_front change log xs ys zs some_x some_y apart sound =
     subst IsSound (sym (append_assoc log (commands 0 ys) (commands 0 (xs ++ zs)) ∙ ap (λ l. log ++ (commands 0 ys ++ l)) (map-append (Command 0) xs zs)))
-        (change 0 log (commands 0 zs) xs ys some_x some_y apart (subst IsSound (three_parts log xs ys zs) sound))
+    (change 0 log (commands 0 zs) xs ys some_x some_y apart (subst IsSound (three_parts log xs ys zs) sound))
 
 -- what is added at the end comes before the last part
 from_end : ChangePlaces → (log : List Item) (xs zs nodes : List Node) → AllByRecursion NoneEmpty zs → AllByRecursion NoneEmpty nodes → NoConflict zs nodes
     → IsSound ((log ++ commands 0 (xs ++ zs)) ++ commands 0 nodes) → IsSound (log ++ commands 0 (xs ++ (nodes ++ zs)))
 from_end change log xs zs nodes some_z some_n apart sound =
     subst IsSound (append_assoc log (commands 0 xs) (commands 0 nodes ++ (commands 0 zs ++ []))
-        ∙ ap (λ l. log ++ (commands 0 xs ++ (commands 0 nodes ++ l))) (append-nil (commands 0 zs)) ∙ sym (three_parts log xs nodes zs))
-        (change 0 (log ++ commands 0 xs) [] zs nodes some_z some_n apart (subst IsSound start sound))
+    ∙ ap (λ l. log ++ (commands 0 xs ++ (commands 0 nodes ++ l))) (append-nil (commands 0 zs)) ∙ sym (three_parts log xs nodes zs))
+    (change 0 (log ++ commands 0 xs) [] zs nodes some_z some_n apart (subst IsSound start sound))
   where
     start : (log ++ commands 0 (xs ++ zs)) ++ commands 0 nodes ≡ (log ++ commands 0 xs) ++ (commands 0 zs ++ (commands 0 nodes ++ []))
     start = ap (λ l. (log ++ l) ++ commands 0 nodes) (map-append (Command 0) xs zs)
@@ -172,11 +168,11 @@ module _ (pending : ℕ → List Node) (xs : List ℕ) (index : ℕ) (at : Split
   pub sound_flushed : ChangePlaces → AreApart pending → HaveNoneEmpty pending → IsSound (log ++ commands 0 (flat_map pending xs)) → IsSound ((log ++ commands 0 (pending index)) ++ commands 0 (flat_map (put pending index []) xs))
   sound_flushed change apart some sound =
       subst (λ l. IsSound ((log ++ commands 0 (pending index)) ++ commands 0 l)) (sym (order_with pending xs index at []))
-          (to_front change log (before pending xs index at) (pending index) (behind pending xs index at)
-          (before_all pending xs index at (AllByRecursion NoneEmpty) tt (each-append NoneEmpty) (λ i ne. recursion_from_All NoneEmpty (pending i) (some i)))
-          (recursion_from_All NoneEmpty (pending index) (some index))
-          (before_all pending xs index at (λ l. NoConflict l (pending index)) tt (λ ys zs. apart_left ys zs (pending index)) (λ i ne. apart i index ne))
-          (subst (λ l. IsSound (log ++ commands 0 l)) (order_now pending xs index at) sound))
+      (to_front change log (before pending xs index at) (pending index) (behind pending xs index at)
+      (before_all pending xs index at (AllByRecursion NoneEmpty) tt (each-append NoneEmpty) (λ i ne. recursion_from_All NoneEmpty (pending i) (some i)))
+      (recursion_from_All NoneEmpty (pending index) (some index))
+      (before_all pending xs index at (λ l. NoConflict l (pending index)) tt (λ ys zs. apart_left ys zs (pending index)) (λ i ne. apart i index ne))
+      (subst (λ l. IsSound (log ++ commands 0 l)) (order_now pending xs index at) sound))
 
   pub barriers_flushed : HaveFullBarriers (log ++ commands 0 (flat_map pending xs)) → HaveFullBarriers ((log ++ commands 0 (pending index)) ++ commands 0 (flat_map (put pending index []) xs))
   barriers_flushed full =
@@ -189,9 +185,9 @@ module _ (pending : ℕ → List Node) (xs : List ℕ) (index : ℕ) (at : Split
       let front = barriers_left (commands 0 a) (commands 0 (pending index) ++ commands 0 b) rest in
       let back = barriers_right (commands 0 a) (commands 0 (pending index) ++ commands 0 b) rest in
       subst (λ l. HaveFullBarriers ((log ++ commands 0 (pending index)) ++ l)) (sym (ap (commands 0) (order_with pending xs index at []) ∙ map-append (Command 0) a b))
-          (barriers-append (log ++ commands 0 (pending index)) (commands 0 a ++ commands 0 b)
-          (barriers-append log (commands 0 (pending index)) first (barriers_left (commands 0 (pending index)) (commands 0 b) back))
-          (barriers-append (commands 0 a) (commands 0 b) front (barriers_right (commands 0 (pending index)) (commands 0 b) back)))
+      (barriers-append (log ++ commands 0 (pending index)) (commands 0 a ++ commands 0 b)
+      (barriers-append log (commands 0 (pending index)) first (barriers_left (commands 0 (pending index)) (commands 0 b) back))
+      (barriers-append (commands 0 a) (commands 0 b) front (barriers_right (commands 0 (pending index)) (commands 0 b) back)))
 
   -- nodes are recorded in one context
   pub sound_recorded : ChangePlaces → Mutual → HaveNoneEmpty pending → (nodes : List Node) → All NoneEmpty nodes → ((i : ℕ) → i ≢ index → NoConflict nodes (pending i))
@@ -200,11 +196,11 @@ module _ (pending : ℕ → List Node) (xs : List ℕ) (index : ℕ) (at : Split
       let a : List Node = before pending xs index at in
       let b : List Node = behind pending xs index at in
       subst (λ l. IsSound (log ++ commands 0 l)) (append_assoc a (pending index) (nodes ++ b) ∙ ap (λ l. a ++ l) (sym (append_assoc (pending index) nodes b)) ∙ sym (order_with pending xs index at (pending index ++ nodes)))
-          (from_end change log (a ++ pending index) b nodes
-          (behind_all pending xs index at (AllByRecursion NoneEmpty) tt (each-append NoneEmpty) (λ i ne. recursion_from_All NoneEmpty (pending i) (some i)))
-          (recursion_from_All NoneEmpty nodes some_nodes)
-          (behind_all pending xs index at (λ l. NoConflict l nodes) tt (λ ys zs. apart_left ys zs nodes) (λ i ne. apart_turned turn nodes (pending i) (apart i ne)))
-          (subst (λ l. IsSound ((log ++ commands 0 l) ++ commands 0 nodes)) (order_now pending xs index at ∙ sym (append_assoc a (pending index) b)) sound))
+      (from_end change log (a ++ pending index) b nodes
+      (behind_all pending xs index at (AllByRecursion NoneEmpty) tt (each-append NoneEmpty) (λ i ne. recursion_from_All NoneEmpty (pending i) (some i)))
+      (recursion_from_All NoneEmpty nodes some_nodes)
+      (behind_all pending xs index at (λ l. NoConflict l nodes) tt (λ ys zs. apart_left ys zs nodes) (λ i ne. apart_turned turn nodes (pending i) (apart i ne)))
+      (subst (λ l. IsSound ((log ++ commands 0 l) ++ commands 0 nodes)) (order_now pending xs index at ∙ sym (append_assoc a (pending index) b)) sound))
 
   pub barriers_recorded : (nodes : List Node) → HaveFullBarriers (commands 0 nodes) → HaveFullBarriers (log ++ commands 0 (flat_map pending xs)) → HaveFullBarriers (log ++ commands 0 (flat_map (put pending index (pending index ++ nodes)) xs))
   barriers_recorded nodes own full =
@@ -219,8 +215,8 @@ module _ (pending : ℕ → List Node) (xs : List ℕ) (index : ℕ) (at : Split
       let is : log ++ (commands 0 a ++ ((commands 0 (pending index) ++ commands 0 nodes) ++ commands 0 b)) ≡ log ++ commands 0 (flat_map (put pending index (pending index ++ nodes)) xs)
       = ap (λ l. log ++ (commands 0 a ++ (l ++ commands 0 b))) (sym (map-append (Command 0) (pending index) nodes)) ∙ sym (three_parts log a (pending index ++ nodes) b) ∙ ap (λ l. log ++ commands 0 l) (sym (order_with pending xs index at (pending index ++ nodes))) in
       subst HaveFullBarriers is
-          (barriers-append log (commands 0 a ++ ((commands 0 (pending index) ++ commands 0 nodes) ++ commands 0 b)) first
-          (barriers-append (commands 0 a) ((commands 0 (pending index) ++ commands 0 nodes) ++ commands 0 b) front
-          (barriers-append (commands 0 (pending index) ++ commands 0 nodes) (commands 0 b)
-          (barriers-append (commands 0 (pending index)) (commands 0 nodes) (barriers_left (commands 0 (pending index)) (commands 0 b) back) own)
-          (barriers_right (commands 0 (pending index)) (commands 0 b) back))))
+      (barriers-append log (commands 0 a ++ ((commands 0 (pending index) ++ commands 0 nodes) ++ commands 0 b)) first
+      (barriers-append (commands 0 a) ((commands 0 (pending index) ++ commands 0 nodes) ++ commands 0 b) front
+      (barriers-append (commands 0 (pending index) ++ commands 0 nodes) (commands 0 b)
+      (barriers-append (commands 0 (pending index)) (commands 0 nodes) (barriers_left (commands 0 (pending index)) (commands 0 b) back) own)
+      (barriers_right (commands 0 (pending index)) (commands 0 b) back))))

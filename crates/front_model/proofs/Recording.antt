@@ -1,28 +1,26 @@
 -- Recording nodes, and handing the pending nodes of a context to the back, keep what holds.
 use Rattle.std.proofs.Common.{◌≡◌, ◌≢◌, ℕ, ◌+◌, ◌<◌, ◌≤◌, ◌==◌, Bool, true, false, cond, max, List, [], ◌∷◌, ◌++◌, length, refl, sym, ◌∙◌, ap, subst, arith, inl, inr, length-append}
-use Rattle.std.specs.Prelude.{◌⊎◌, ◌&&◌, ◌||◌, Option, Some, None, IfSome, IsSome, All, slice_get}
-use Rattle.std.specs.List.{flat_map}
+use Rattle.std.specs.Prelude.{◌⊎◌, ◌&&◌, ◌||◌, All}
 use Rattle.std.specs.Option.{option_map}
-use Rattle.std.proofs.lemmas.Bool.{cases_eq, cases_Bool, both_ways, false_from_ne_true, cond-true, cond-false, eq-eqb, ne_eqb, and_from, and_left, and_right, or_cases, or_left, or_right, or_from}
+use Rattle.std.proofs.lemmas.Bool.{cases_eq, cases_Bool, false_from_ne_true, cond-true, cond-false, eq-eqb, ne_eqb, and_from, and_left, and_right, or_cases, or_left}
 use Rattle.std.proofs.lemmas.List.Elements.{All-nil, All-append}
 use Rattle.vk_types.specs.declared.ops.Node.{Node}
 use Rattle.vk_types.specs.declared.batches.Batch.{Batch}
-use Rattle.vk_types.specs.declared.batches.QueueSerial.{QueueSerial}
-use Rattle.vk_model.specs.Log.{Item, IsSound, NoneEmpty, NoConflict, commands}
+use Rattle.vk_model.specs.Log.{IsSound, NoneEmpty, NoConflict, commands}
 use Rattle.vk_model.specs.Fitting.{NodeFits}
 use Rattle.resource_use.specs.Uses.{number_of}
 use Rattle.submit_queue.specs.Histories.{last_number}
 use Rattle.back_core.specs.Own.{Own, Enqueued, log_of, batches_of, batch_touches, last_use, next_number}
 use Rattle.back_core.specs.Link.{Link, put, enqueued}
 use Rattle.back_core.specs.Needs.{IsOfGroup, MayTouch}
-use Rattle.front_model.specs.Face.{Object, Waiting, Slot, Stored, Face, nodes_touch, indexes_of, in_order, whole_log}
-use Rattle.front_model.specs.Stands.{Hands, Owner, Store, Staging, InHand, use_of, SlotStands, StagingStands, WaitingStands, StoredStands, HandStands, HasHandle, IsPastUse, HaveFullBarriers, Holds}
+use Rattle.front_model.specs.Face.{Object, Slot, Stored, Face, nodes_touch, indexes_of, in_order}
+use Rattle.front_model.specs.Stands.{Hands, Store, Staging, InHand, use_of, SlotStands, StoredStands, HandStands, IsPastUse, HaveFullBarriers, Holds}
 use Rattle.front_model.specs.Steps.{noted, noted_store, with_nodes, noted_hands, IsTarget, MayRecord, IsNextBatch, flushed}
 use Rattle.front_model.proofs.Base.{put-same, put-other, put_at, put_holds, map_is, map_some, some_is, nodes_touch-append}
 use Rattle.front_model.proofs.Uses.{log_then, number_then, use_then, use_apart}
 use Rattle.front_model.proofs.Sounds.{barriers_nodes}
 use Rattle.front_model.proofs.Orders.{Mutual, ChangePlaces, none_left, none_right, apart_left, apart_right, apart_turned, split, sound_flushed, barriers_flushed, sound_recorded, barriers_recorded}
-use Rattle.front_model.proofs.Standing.{SameSlot, slot_kept, waiting_kept, stored_kept, hand_kept, staging_stands}
+use Rattle.front_model.proofs.Standing.{SameSlot, waiting_kept, stored_kept, hand_kept, staging_stands}
 
 -- The pending nodes become a batch
 
@@ -69,7 +67,7 @@ module _ (f : Face) (hands : Hands) (s : Link) (index : ℕ) (batch : Batch) (h 
           ap (λ nodes. cond (nodes_touch nodes j) (put f.last index (f.last index + 1) i + 1) (last_use (enqueued s batch).mine i j)) (put-other f.pending index [] i ne)
           ∙ ap (λ n. cond (nodes_touch (f.pending i) j) (n + 1) (last_use (enqueued s batch).mine i j)) (put-other f.last index (f.last index + 1) i ne)
           ∙ ap (λ n. cond (nodes_touch (f.pending i) j) (f.last i + 1) n)
-            (use_then s.mine batch i j ∙ cond-false ((batch.index == i) && batch_touches batch j) _ _ (and_left (batch.index == i) (batch_touches batch j) (ne_eqb batch.index i (λ e. ne (sym e ∙ next.of_index)))))
+          (use_then s.mine batch i j ∙ cond-false ((batch.index == i) && batch_touches batch j) _ _ (and_left (batch.index == i) (batch_touches batch j) (ne_eqb batch.index i (λ e. ne (sym e ∙ next.of_index)))))
 
   log_now : log_of (enqueued s batch).mine ≡ log_of s.mine ++ commands 0 (f.pending index)
   log_now = log_then s.mine (Enqueued batch) ∙ ap (λ nodes. log_of s.mine ++ commands 0 nodes) next.all
@@ -217,10 +215,10 @@ module _ (f : Face) (hands : Hands) (s : Link) (index : ℕ) (nodes : List Node)
         barriers = barriers_recorded f.pending (indexes_of f.group) index (split f.group index may.of_group) (log_of s.mine) nodes (barriers_nodes nodes may.barriers) h.barriers;
         apart = λ i j ne. put_holds (λ l. NoConflict l (g.pending j)) f.pending index both i
             (λ e. put_holds (NoConflict both) f.pending index both j (λ e'. absurd (ne (e ∙ sym e')))
-                (λ ne'. apart_left (f.pending index) nodes (f.pending j) (h.apart index j (λ e'. ne' (sym e'))) (may.apart j ne')))
+            (λ ne'. apart_left (f.pending index) nodes (f.pending j) (h.apart index j (λ e'. ne' (sym e'))) (may.apart j ne')))
             (λ ne'. put_holds (NoConflict (f.pending i)) f.pending index both j
-                (λ e. apart_right (f.pending i) (f.pending index) nodes (h.apart i index ne') (apart_turned turn nodes (f.pending i) (may.apart i ne')))
-                (λ other. h.apart i j ne));
+            (λ e. apart_right (f.pending i) (f.pending index) nodes (h.apart i index ne') (apart_turned turn nodes (f.pending i) (may.apart i ne')))
+            (λ other. h.apart i j ne));
         fits = λ i. put_holds (All (NodeFits s.kinds)) f.pending index both i (λ e. All-append (NodeFits s.kinds) (f.pending index) nodes (h.fits index) may.fits) (λ ne. h.fits i);
         none_empty = λ i. put_holds (All NoneEmpty) f.pending index both i (λ e. All-append NoneEmpty (f.pending index) nodes (h.none_empty index) may.none_empty) (λ ne. h.none_empty i);
         few = λ i. put_holds (λ (l : List Node). length l < 4294967294) f.pending index both i

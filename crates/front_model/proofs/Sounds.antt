@@ -1,6 +1,6 @@
 -- Parts of sound logs, and sound logs with a write by the host.
-use Rattle.std.proofs.Common.{◌≡◌, ◌≢◌, ℕ, ◌+◌, ◌<◌, ◌≤◌, zero, suc, List, get_or, [], ◌∷◌, ◌++◌, length, take, true, false, refl, sym, ◌∙◌, ap, subst, arith, inl, inr}
-use Rattle.std.specs.Prelude.{◌⊎◌, Option, Some, None, slice_get, IfSome, map, All}
+use Rattle.std.proofs.Common.{◌≡◌, ℕ, ◌+◌, ◌<◌, zero, suc, List, get_or, [], ◌∷◌, ◌++◌, length, take, refl, sym, ◌∙◌, ap, subst, arith, inl, inr}
+use Rattle.std.specs.Prelude.{◌⊎◌, Some, None, slice_get, IfSome, All}
 use Rattle.std.proofs.lemmas.List.{take-append-le}
 use Rattle.std.proofs.lemmas.Bool.{cases_order}
 use Rattle.std.proofs.lemmas.Option.{IfSome_then, slice_get_within, same_Some, slice_get-map, get_or_from_slice_get}
@@ -8,7 +8,7 @@ use Rattle.vk_types.specs.declared.accesses.Layout.{Layout}
 use Rattle.vk_types.specs.declared.accesses.Layout.TheVariants.{Undefined}
 use Rattle.vk_types.specs.declared.ops.Node.{Node}
 use Rattle.vk_types.specs.Touches.{touches, barrier_of}
-use Rattle.vk_model.specs.Log.{Item, Command, HostWrite, item_edge, HasEdge, Reaches, direct, further, layout_step, layout_from, layout_after, FindsLayouts, IsSound, Conflicts, NamesAll, commands}
+use Rattle.vk_model.specs.Log.{Item, Command, HostWrite, HasEdge, Reaches, direct, further, layout_step, layout_from, layout_after, FindsLayouts, IsSound, Conflicts, NamesAll, commands}
 use Rattle.front_model.specs.Stands.{HaveFullBarriers}
 use Rattle.front_model.proofs.Base.{map_is}
 
@@ -147,14 +147,14 @@ module _ (id at : ℕ) (bytes : List ℕ) where
       ordered j k p q a b lt x y clash =
           let less : x.old < y.old = below j k x.old y.old lt x.is y.is (cases_order x.old y.old) in
           subst (λ m. Reaches (front ++ HostWrite id at bytes ∷ back) m k) (sym x.is)
-              (subst (λ m. Reaches (front ++ HostWrite id at bytes ∷ back) (shifted front x.old) m) (sym y.is)
-              (reaches_shifted front back (sound.ordered x.old y.old p q a b less x.at_old y.at_old clash)))
+          (subst (λ m. Reaches (front ++ HostWrite id at bytes ∷ back) (shifted front x.old) m) (sym y.is)
+          (reaches_shifted front back (sound.ordered x.old y.old p q a b less x.at_old y.at_old clash)))
 
       laid_out : (k q : ℕ) (n : Node) → From front back k q n → FindsLayouts (take k (front ++ HostWrite id at bytes ∷ back)) n
       laid_out k q n x =
           subst (λ m. FindsLayouts (take m (front ++ HostWrite id at bytes ∷ back)) n) (sym x.is)
-              (finds_same (take x.old (front ++ back)) (take (shifted front x.old) (front ++ HostWrite id at bytes ∷ back)) n
-              (λ object. sym (layout_shifted front back x.old object Undefined)) (sound.laid_out x.old q n x.at_old))
+          (finds_same (take x.old (front ++ back)) (take (shifted front x.old) (front ++ HostWrite id at bytes ∷ back)) n
+          (λ object. sym (layout_shifted front back x.old object Undefined)) (sound.laid_out x.old q n x.at_old))
 
 -- Full barriers
 

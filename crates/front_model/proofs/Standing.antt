@@ -1,18 +1,15 @@
 -- What of a front that holds stays where its handles are as before.
-use Rattle.std.proofs.Common.{◌≡◌, ◌≢◌, ℕ, ◌+◌, ◌<◌, ◌≤◌, Bool, true, false, List, get_or, refl, sym, ◌∙◌, ap, subst, arith, inl, inr}
-use Rattle.std.specs.Prelude.{◌⊎◌, Option, Some, None, IfSome, IsSome, slice_get, if◌then◌else◌}
-use Rattle.std.proofs.lemmas.Bool.{cases_Bool}
+use Rattle.std.proofs.Common.{◌≡◌, ◌≢◌, ℕ, true, false, get_or, refl, sym, ◌∙◌, ap, subst, inl, inr}
+use Rattle.std.specs.Prelude.{◌⊎◌, Option, Some, None, IfSome, IsSome}
 use Rattle.vk_types.specs.declared.handles.Kind.{Kind}
 use Rattle.vk_types.specs.declared.ops.Op.{Op}
 use Rattle.vk_types.specs.declared.ops.Op.TheVariants.{CopyBuffer, BufferToImage, ImageToBuffer, CopyImage, BlitImage, ClearImage, FillBuffer, PassPart}
 use Rattle.vk_types.specs.declared.ops.Node.{Node}
 use Rattle.vk_types.specs.Touches.{rows_size, buffer_texel}
 use Rattle.vk_model.specs.Fitting.{HasRange, HasRect, HasTexels, IsImage, format_in, OpFits, NodeFits}
-use Rattle.back_core.specs.Own.{last_use}
 use Rattle.back_core.specs.Link.{Link}
-use Rattle.back_core.specs.Needs.{IsOfGroup, IsFresh, MayTouch}
-use Rattle.front_model.specs.Face.{Object, Waiting, Slot, Stored, Face, nodes_touch, IsUpdate}
-use Rattle.front_model.specs.Stands.{Hands, Owner, Store, Staging, InHand, use_of, SlotStands, StagingStands, WaitingStands, StoredStands, HandStands, HasHandle, Holds}
+use Rattle.front_model.specs.Face.{Object, Waiting, Slot, Stored, Face}
+use Rattle.front_model.specs.Stands.{Owner, Store, Staging, InHand, use_of, SlotStands, StagingStands, WaitingStands, StoredStands, HandStands, HasHandle}
 
 -- Nodes fit where more objects have kinds
 
@@ -47,8 +44,7 @@ module _ (old new : ℕ → Option Kind) (grows : KindsGrow old new) where
   )
   op_fits_more (CopyImage src src_x src_y dst rect) fits =
       let from : old src.0 ≡ new src.0 = same_kind (λ k. HasRect k (record { x = src_x; y = src_y; w = rect.w; h = rect.h })) (λ h. h) (old src.0) (new src.0) (grows src.0) fits.0 in
-      let to : old dst.0 ≡ new dst.0 = same_kind (λ k. HasRect k rect) (λ h. h) (old dst.0) (new dst.0) (grows dst.0) fits.1 in
-      (
+      let to : old dst.0 ≡ new dst.0 = same_kind (λ k. HasRect k rect) (λ h. h) (old dst.0) (new dst.0) (grows dst.0) fits.1 in (
         subst (λ k. HasRect k (record { x = src_x; y = src_y; w = rect.w; h = rect.h })) from fits.0,
         subst (λ k. HasRect k rect) to fits.1,
         ap format_in (sym from) ∙ fits.2 ∙ ap format_in to,
@@ -124,7 +120,7 @@ module _ (f : Face) (s : Link) (owner : ℕ → Owner) (o : Object) where
   handle_held b id stands (inl is) = ap s.held (sym is) ∙ stands.slot.held
   handle_held b id stands (inr has) = (staging_stands b.handle has.0 id has.1 has.3 (stands.waiting has.0 has.1 has.2)).held
 
-  -- it has its kind
+  -- it is its store, or one of its staging buffers
   pub handle_owner : (b : Stored) (id : ℕ) → StoredStands f s owner o b → HasHandle b id → (owner id ≡ Store o) ⊎ ((place : ℕ) × (owner id ≡ Staging o place))
   handle_owner b id stands (inl is) = inl (ap owner (sym is) ∙ stands.owned)
   handle_owner b id stands (inr has) = inr (has.0, (staging_stands b.handle has.0 id has.1 has.3 (stands.waiting has.0 has.1 has.2)).owned)

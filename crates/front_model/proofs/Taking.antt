@@ -1,17 +1,17 @@
 -- What waits on an object is taken out, and what waits behind it moves down by one place.
-use Rattle.std.proofs.Common.{◌≡◌, ◌≢◌, ℕ, ◌+◌, ◌-◌, ◌<◌, ◌≤◌, zero, suc, Bool, true, false, cond, List, [], ◌∷◌, ◌++◌, length, refl, sym, ◌∙◌, ap, subst, arith, inl, inr}
-use Rattle.std.specs.Prelude.{◌⊎◌, ◌&&◌, nat_lt, Option, Some, None, IfSome, IsSome, slice_get}
+use Rattle.std.proofs.Common.{◌≡◌, ◌≢◌, ℕ, ◌-◌, ◌<◌, ◌≤◌, zero, suc, cond, List, [], ◌∷◌, refl, sym, ◌∙◌, ap, subst, arith, inl, inr}
+use Rattle.std.specs.Prelude.{◌⊎◌, ◌&&◌, nat_lt, Some, None, slice_get}
 use Rattle.std.proofs.lemmas.Bool.{cases_eq, cond-true, cond-false, and_left, and_right, and_from, lt-ltb, le-ltb}
 use Rattle.std.proofs.lemmas.Option.{none-some, same_Some}
 use Rattle.vk_types.specs.declared.handles.Kind.{Kind}
 use Rattle.vk_types.specs.declared.ops.Node.{Node}
 use Rattle.back_core.specs.Link.{Link, put}
-use Rattle.front_model.specs.Face.{Object, Waiting, Slot, Stored, Face, same_object}
-use Rattle.front_model.specs.Stands.{Hands, Owner, Store, Staging, InHand, SlotStands, StagingStands, WaitingStands, StoredStands, HandStands, HasHandle, Holds}
+use Rattle.front_model.specs.Face.{Object, Waiting, Stored, Face, same_object}
+use Rattle.front_model.specs.Stands.{Hands, Owner, Store, Staging, InHand, StagingStands, StoredStands, HasHandle, Holds}
 use Rattle.front_model.specs.Steps.{fresh_slot, with_object, without_place, taken_from}
 use Rattle.front_model.proofs.Base.{put-same, put-other, put_at, put-some, is_some_of, same_object-self, same_object-other}
 use Rattle.front_model.proofs.Standing.{SameSlot, slot_kept, waiting_kept, hand_kept, staging_stands}
-use Rattle.front_model.proofs.ObjectSteps.{IsOwnedBy, IsHere, object_apart, exchanged, hands_got}
+use Rattle.front_model.proofs.ObjectSteps.{IsOwnedBy, object_apart, exchanged, hands_got}
 
 -- A list without one of its places
 
@@ -61,6 +61,46 @@ module _ (o : Object) (place : ℕ) where
       let e : suc p - 1 ≡ p = omega arith in
       cond-true (same_object o o && nat_lt place (suc p)) (Staging o (suc p - 1)) (Staging o (suc p)) (and_from (same_object o o) (nat_lt place (suc p)) (same_object-self o) (lt-ltb place (suc p) (omega arith))) ∙ ap (Staging o) e
 
+-- owners that moved, but maybe that of what was taken out
+module _ (owner also : ℕ → Owner) (o : Object) (place : ℕ) (others : (j : ℕ) → owner j ≢ Staging o place → also j ≡ moved o place (owner j)) where
+  owner_hand : (j : ℕ) → owner j ≡ InHand → also j ≡ InHand
+  owner_hand j of = others j (λ k. let m : InHand ≡ Staging o place = sym of ∙ k in cc) ∙ ap (moved o place) of ∙ moved-hand o place
+
+  owner_store : (q : Object) (j : ℕ) → owner j ≡ Store q → also j ≡ Store q
+  owner_store q j of = others j (λ k. let m : Store q ≡ Staging o place = sym of ∙ k in cc) ∙ ap (moved o place) of ∙ moved-store o place q
+
+  owner_other : (q : Object) (p j : ℕ) → q ≢ o → owner j ≡ Staging q p → also j ≡ Staging q p
+  owner_other q p j ne of = others j (λ k. let m : Staging q p ≡ Staging o place = sym of ∙ k in ne (cc)) ∙ ap (moved o place) of ∙ moved-other o place q p ne
+
+  owner_before : (j p : ℕ) → p < place → owner j ≡ Staging o p → also j ≡ Staging o p
+  owner_before j p lt of =
+      others j (λ k. let l : Staging o p ≡ Staging o place = sym of ∙ k in let m : p ≡ place = cc in absurd (omega arith)) ∙ ap (moved o place) of ∙ moved-before o place p (omega arith)
+
+  owner_behind : (j p : ℕ) → place ≤ p → owner j ≡ Staging o (suc p) → also j ≡ Staging o p
+  owner_behind j p le of =
+      others j (λ k. let l : Staging o (suc p) ≡ Staging o place = sym of ∙ k in let m : suc p ≡ place = cc in absurd (omega arith)) ∙ ap (moved o place) of ∙ moved-behind o place p le
+
+  -- other objects have their handles still
+  owner_apart : (q : Object) (j : ℕ) → q ≢ o → IsOwnedBy owner q j → also j ≡ owner j
+  owner_apart q j ne (inl of) = owner_store q j of ∙ sym of
+  owner_apart q j ne (inr of) = owner_other q of.0 j ne of.1 ∙ sym of.1
+
+  -- the object stands with what is left
+  left_stored : (f : Face) (s : Link) (b : Stored) → StoredStands f s owner o b → StoredStands (with_object f o (Some (taken_from b place))) s also o (taken_from b place)
+  left_stored f s b u =
+      let g : Face = with_object f o (Some (taken_from b place)) in
+      let same : (j : ℕ) → SameSlot f g s s j = object_apart f s o (Some (taken_from b place)) in
+      record {
+        slot = slot_kept f g s s b.handle b.slot (same b.handle) u.slot;
+        owned = owner_store o b.handle u.owned;
+        waiting = λ p x at. elim (left_from place b.waiting p x at) [
+          | inl e ↦ waiting_kept f g s s owner also (λ i kind at. at) o b.handle p p x (λ i is. same i) (λ i is of. owner_before i p e.0 of) (u.waiting p x e.1)
+          | inr e ↦ waiting_kept f g s s owner also (λ i kind at. at) o b.handle (suc p) p x (λ i is. same i) (λ i is of. owner_behind i p e.0 of) (u.waiting (suc p) x e.1)
+        ];
+      }
+
+-- An update is taken out, and its staging buffer is in hand
+
 pub taken_holds : (f : Face) (hands : Hands) (s : Link) (o : Object) (b : Stored) (place id : ℕ) (node : Node) (kind : Kind) → Holds f hands s → f.objects o ≡ Some b
     → slice_get b.waiting place ≡ Some (record { staging = Some id; node = node }) → s.kinds id ≡ Some kind
     → Holds (with_object f o (Some (taken_from b place))) (put hands id (Some (fresh_slot kind))) s
@@ -71,24 +111,11 @@ taken_holds f hands s o b place id node kind h at waits is_kind =
     let also : ℕ → Owner = put (λ j. moved o place (h.owner j)) id InHand in
     let u = h.objects o b at in
     let v : StagingStands f s h.owner o place id = staging_stands f s h.owner o b.handle place id w refl (u.waiting place w waits) in
-    let same : (j : ℕ) → SameSlot f g s s j = object_apart f s o (Some c) in
-    let other : (j : ℕ) → h.owner j ≢ Staging o place → also j ≡ moved o place (h.owner j) = λ j ne. put-other (λ i. moved o place (h.owner i)) id InHand j (λ e. ne (ap h.owner e ∙ v.owned)) in
-    let before : (j p : ℕ) → p < place → h.owner j ≡ Staging o p → also j ≡ Staging o p
-    = λ j p lt of. other j (λ k. let l : Staging o p ≡ Staging o place = sym of ∙ k in let m : p ≡ place = cc in absurd (omega arith)) ∙ ap (moved o place) of ∙ moved-before o place p (omega arith) in
-    let behind : (j p : ℕ) → place ≤ p → h.owner j ≡ Staging o (suc p) → also j ≡ Staging o p
-    = λ j p le of. other j (λ k. let l : Staging o (suc p) ≡ Staging o place = sym of ∙ k in let m : suc p ≡ place = cc in absurd (omega arith)) ∙ ap (moved o place) of ∙ moved-behind o place p le in
-    let own : StoredStands g s also o c = record {
-      slot = slot_kept f g s s b.handle b.slot (same b.handle) u.slot;
-      owned = other b.handle (λ k. let l : Store o ≡ Staging o place = sym u.owned ∙ k in cc) ∙ ap (moved o place) u.owned ∙ moved-store o place o;
-      waiting = λ p x at. elim (left_from place b.waiting p x at) [
-        | inl e ↦ waiting_kept f g s s h.owner also (λ i kind at. at) o b.handle p p x (λ i is. same i) (λ i is of. before i p e.0 of) (u.waiting p x e.1)
-        | inr e ↦ waiting_kept f g s s h.owner also (λ i kind at. at) o b.handle (suc p) p x (λ i is. same i) (λ i is of. behind i p e.0 of) (u.waiting (suc p) x e.1)
-      ];
-    } in
+    let others : (j : ℕ) → h.owner j ≢ Staging o place → also j ≡ moved o place (h.owner j)
+    = λ j ne. put-other (λ i. moved o place (h.owner i)) id InHand j (λ e. ne (ap h.owner e ∙ v.owned)) in
     exchanged f hands (put hands id (Some (fresh_slot kind))) s o (Some c) also
-    (λ d is. subst (StoredStands g s also o) (same_Some c d is) own)
-    (hands_got f g hands s h.owner also id (fresh_slot kind) same
-    (λ j ne own. put-other (λ i. moved o place (h.owner i)) id InHand j ne ∙ ap (moved o place) own ∙ moved-hand o place)
+    (λ d is. subst (StoredStands g s also o) (same_Some c d is) (left_stored h.owner also o place others f s b u))
+    (hands_got f g hands s h.owner also id (fresh_slot kind) (object_apart f s o (Some c)) (λ j ne of. owner_hand h.owner also o place others j of)
     (record {
       stands = record { held = v.held; kind = is_kind; used = λ index. sym (v.unused index) };
       owned = put-same (λ i. moved o place (h.owner i)) id InHand;
@@ -107,7 +134,34 @@ taken_holds f hands s o b place id node kind h at waits is_kind =
       ]
     ])
     h
-    (λ q j ne own. elim own [
-      | inl l ↦ other j (λ k. let m : Store q ≡ Staging o place = sym l ∙ k in cc) ∙ ap (moved o place) l ∙ moved-store o place q ∙ sym l
-      | inr l ↦ other j (λ k. let m : Staging q l.0 ≡ Staging o place = sym l.1 ∙ k in ne (cc)) ∙ ap (moved o place) l.1 ∙ moved-other o place q l.0 ne ∙ sym l.1
+    (owner_apart h.owner also o place others)
+
+-- A clear is taken out, which has no staging buffer
+
+pub taken_clear_holds : (f : Face) (hands : Hands) (s : Link) (o : Object) (b : Stored) (place : ℕ) (node : Node) → Holds f hands s → f.objects o ≡ Some b
+    → slice_get b.waiting place ≡ Some (record { staging = None; node = node })
+    → Holds (with_object f o (Some (taken_from b place))) hands s
+taken_clear_holds f hands s o b place node h at waits =
+    let w : Waiting = record { staging = None; node = node } in
+    let c : Stored = taken_from b place in
+    let g : Face = with_object f o (Some c) in
+    let also : ℕ → Owner = λ j. moved o place (h.owner j) in
+    let others : (j : ℕ) → h.owner j ≢ Staging o place → also j ≡ moved o place (h.owner j) = λ j ne. refl in
+    exchanged f hands hands s o (Some c) also
+    (λ d is. subst (StoredStands g s also o) (same_Some c d is) (left_stored h.owner also o place others f s b (h.objects o b at)))
+    (λ j slot hand. let u = h.hands_stand j slot hand in
+    hand_kept f g s s h.owner also (λ i kind at. at) j slot (object_apart f s o (Some c) j) (owner_hand h.owner also o place others j u.owned ∙ sym u.owned) u)
+    (λ j known. elim known [
+      | inl hand ↦ inl hand
+      | inr has ↦ let is : has.0 ≡ b = same_Some has.0 b (sym has.1 ∙ at) in elim (subst (λ d. HasHandle d j) is has.2) [
+        | inl e ↦ inr (c, refl, inl e)
+        | inr e ↦ elim (cases_eq e.0 place) [
+          | inl here ↦
+              let both : e.1 ≡ w = same_Some e.1 w (sym e.2 ∙ ap (slice_get b.waiting) here ∙ waits) in
+              absurd (none-some j (sym (ap (λ (x : Waiting). x.staging) both) ∙ e.3))
+          | inr there ↦ let now = left_at place b.waiting e.0 e.1 there e.2 in inr (c, refl, inr (now.0, e.1, now.1, e.3))
+        ]
+      ]
     ])
+    h
+    (owner_apart h.owner also o place others)

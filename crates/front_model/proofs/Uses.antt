@@ -1,14 +1,13 @@
 -- The batches of a list with one item more, and the last uses and numbers that follow from them.
-use Rattle.std.proofs.Common.{◌≡◌, ◌≢◌, ℕ, ◌+◌, ◌<◌, ◌≤◌, ◌==◌, true, false, cond, max, List, [], ◌∷◌, ◌++◌, refl, sym, ap, ◌∙◌, subst, inl, inr, arith}
+use Rattle.std.proofs.Common.{◌≡◌, ℕ, ◌==◌, false, cond, max, List, [], ◌∷◌, ◌++◌, refl, ap, ◌∙◌}
 use Rattle.std.specs.Prelude.{◌&&◌, All}
-use Rattle.std.specs.List.{fold, flat_map}
-use Rattle.std.proofs.lemmas.Bool.{cond-true, cond-false, and_right}
+use Rattle.std.specs.List.{fold}
+use Rattle.std.proofs.lemmas.Bool.{cond-false, and_right}
 use Rattle.std.proofs.lemmas.List.{append-nil}
 use Rattle.std.proofs.lemmas.List.Concat.{flat_map-append}
 use Rattle.std.proofs.lemmas.List.Sums.{fold-append}
 use Rattle.std.proofs.lemmas.List.Elements.{All-head, All-tail}
 use Rattle.vk_types.specs.declared.batches.Batch.{Batch}
-use Rattle.vk_model.specs.Log.{Item}
 use Rattle.submit_queue.specs.Histories.{last_number}
 use Rattle.back_core.specs.Own.{Own, HostWrote, Enqueued, HostRead, log_by, log_of, batch_by, batches_of, batch_touches, own_touches, last_use}
 

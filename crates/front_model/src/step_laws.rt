@@ -46,6 +46,12 @@ pub fn steps_hold()
     ensures takes { (f : Face) (hands : Hands) (s : Link) (o : Object) (b : Stored) (place id : ℕ) (node : Node) (kind : Kind) → Holds f hands s →
         f.objects o ≡ Some b → slice_get b.waiting place ≡ Some (record { staging = Some id; node = node }) → s.kinds id ≡ Some kind →
         Holds (with_object f o (Some (taken_from b place))) (put hands id (Some (fresh_slot kind))) s }
+    // the same of a clear, which has no staging buffer
+    ensures stages_clear { (f : Face) (hands : Hands) (s : Link) (o : Object) (b : Stored) (node : Node) → Holds f hands s → f.objects o ≡ Some b →
+        NodeFits s.kinds node → NoneEmpty node → IsUpdate None b.handle node.op →
+        Holds (with_object f o (Some (with_waiting b (record { staging = None; node = node })))) hands s }
+    ensures takes_clear { (f : Face) (hands : Hands) (s : Link) (o : Object) (b : Stored) (place : ℕ) (node : Node) → Holds f hands s → f.objects o ≡ Some b →
+        slice_get b.waiting place ≡ Some (record { staging = None; node = node }) → Holds (with_object f o (Some (taken_from b place))) hands s }
 {
     lists_change_places();
     conflict_is_mutual();
@@ -74,6 +80,15 @@ pub fn steps_may()
         f.objects o ≡ Some b → b.handle ≢ id }
     ensures owns { (f : Face) (hands : Hands) (s : Link) → Holds f hands s → Owns f.objects s }
     ensures lets_go { (f : Face) (hands : Hands) (s : Link) (id : ℕ) (slot : Slot) → Holds f hands s → hands id ≡ Some slot → Owns f.objects (abandoned s id) }
+    // a handle in hand that nodes used: its last uses are batches, and once they are retired the host may read it
+    ensures wait_hand { (f : Face) (hands : Hands) (s : Link) (id : ℕ) (slot : Slot) (index : ℕ) → Holds f hands s → hands id ≡ Some slot →
+        nodes_touch (f.pending index) id ≡ false → 1 ≤ slot.used index → HasBatch s index (slot.used index) }
+    ensures host_hand { (f : Face) (hands : Hands) (s : Link) (id : ℕ) (slot : Slot) (len at size : ℕ) → Holds f hands s → hands id ≡ Some slot →
+        slot.kind ≡ Kind.Buffer len → ((index : ℕ) → nodes_touch (f.pending index) id ≡ false) → ((index : ℕ) → slot.used index ≤ s.done index) →
+        1 ≤ size → at + size ≤ len → HostMay s id at size }
+    // what an update copies from is a buffer
+    ensures staging { (f : Face) (hands : Hands) (s : Link) (o : Object) (b : Stored) (place id : ℕ) (w : Waiting) → Holds f hands s → f.objects o ≡ Some b →
+        slice_get b.waiting place ≡ Some w → w.staging ≡ Some id → (len : ℕ) × (s.kinds id ≡ Some (Kind.Buffer len)) }
 {
     lists_change_places();
 }

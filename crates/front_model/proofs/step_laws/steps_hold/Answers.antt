@@ -1,7 +1,6 @@
-use Rattle.std.proofs.Common.{refl}
 use Rattle.front_model.proofs.LinkSteps.{new_holds, created_holds, wrote_holds, fetched_holds, learned_holds, gave_holds}
-use Rattle.front_model.proofs.ObjectSteps.{begun_holds, ended_holds, staged_holds}
-use Rattle.front_model.proofs.Taking.{taken_holds}
+use Rattle.front_model.proofs.ObjectSteps.{begun_holds, ended_holds, staged_holds, staged_clear_holds}
+use Rattle.front_model.proofs.Taking.{taken_holds, taken_clear_holds}
 use Rattle.front_model.proofs.Recording.{enqueued_holds, recorded_holds}
 use Rattle.front_model.proofs.step_laws.steps_hold.Goals as goal
 
@@ -19,4 +18,6 @@ returns c = record {
   ends = ended_holds;
   stages = staged_holds;
   takes = taken_holds;
+  stages_clear = staged_clear_holds;
+  takes_clear = taken_clear_holds;
 }
