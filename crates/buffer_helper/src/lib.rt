@@ -1,0 +1,8 @@
+//! A buffer of a share group: the store that it has, and the last uses of it.
+#![tactic(auto)]
+
+mod helper;
+#[cfg(test)]
+mod tests;
+
+pub use helper::BufferHelper;

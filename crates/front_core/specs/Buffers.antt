@@ -1,0 +1,27 @@
+-- The buffers of a share group.
+use Rattle.std.specs.Prelude.{◌≡◌, ℕ, ◌==◌, if◌then◌else◌, Option, Some, None, List, []}
+use Rattle.std.specs.Option.{option_map}
+use Rattle.vk_types.specs.declared.handles.Kind.TheVariants as kind
+use Rattle.vk_types.specs.declared.batches.QueueSerial.{QueueSerial}
+use Rattle.tables.specs.Table.{Entries, entry}
+use Rattle.resource_use.specs.Uses.{number_of, noted}
+use Rattle.buffer_helper.specs.Buffers.{BufferStore}
+use Rattle.front_model.specs.Face.{Object, Buffer, Texture, Renderbuffer, Stored}
+
+-- the store of a buffer as a front has it
+abbrev pub stored_of : BufferStore → Stored
+stored_of b = record { handle = b.handle.0; slot = record { kind = kind.Buffer b.size; used = number_of b.uses }; waiting = [] }
+
+-- the objects of a front whose buffers these are
+abbrev pub objects_of : Entries BufferStore → Object → Option Stored
+objects_of buffers (Buffer b) = option_map stored_of (entry b buffers)
+objects_of buffers (Texture t) = None
+objects_of buffers (Renderbuffer r) = None
+
+-- the store with one more use
+abbrev pub with_use : QueueSerial → BufferStore → BufferStore
+with_use serial b = record b { uses = noted b.uses serial }
+
+-- one buffer has changed, where it is there, and the others are as they were
+abbrev pub ChangesOne : ℕ → (BufferStore → BufferStore) → Entries BufferStore → Entries BufferStore → Type 0
+ChangesOne b change old new = (c : ℕ) → entry c new ≡ (if c == b then option_map change (entry c old) else entry c old)

@@ -1,0 +1,10 @@
+//! The front of one share group: a call comes in and a reply goes out.
+#![tactic(auto)]
+
+mod buffers;
+mod comes_to;
+mod core;
+mod moves;
+mod pending;
+mod recording;
+mod stores;
