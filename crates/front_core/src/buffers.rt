@@ -64,6 +64,9 @@ impl Buffers {
         ensures stores { (c : ℕ) → option_map (λ x. x.handle) (entry c self.new) ≡ option_map (λ x. x.handle) (entry c self.old) }
     {
         let QueueSerial { index, number } = serial;
+        if one == other {
+            return self.note(one, QueueSerial { index, number });
+        }
         self.note(one, QueueSerial { index, number })?;
         self.note(other, QueueSerial { index, number })
     }

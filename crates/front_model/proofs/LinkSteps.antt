@@ -65,6 +65,7 @@ host_holds f hands s x none sound barriers h =
       last = λ index own. h.last index own ∙ sym (number_stays s.mine x none index);
       room = h.room;
       low = λ index id. let e = use_stays s.mine x none index id in let n = number_stays s.mine x none index in let l : last_use s.mine index id ≤ last_number (batches_of s.mine) index = h.low index id in omega (arith, e, n, l);
+      foreign = λ index id far. use_stays s.mine x none index id ∙ h.foreign index id far;
     }
 
 pub wrote_holds : (f : Face) (hands : Hands) (s : Link) (id at : ℕ) (bytes : List ℕ) → Holds f hands s → Holds f hands (wrote s id at bytes)
@@ -114,6 +115,7 @@ knowing_holds f hands s d n a h =
       last = h.last;
       room = h.room;
       low = h.low;
+      foreign = h.foreign;
     }
 
 pub learned_holds : (f : Face) (hands : Hands) (s t : Link) → Holds f hands s → Learns s t → Holds f hands t
@@ -144,6 +146,7 @@ new_holds s group few new =
       last = λ index own. sym (ap (λ m. last_number (batches_of m) index) mine);
       room = λ index own. omega arith;
       low = λ index id. let u : last_use s.mine index id ≡ 0 = ap (λ m. last_use m index id) mine in omega arith;
+      foreign = λ index id far. ap (λ m. last_use m index id) mine;
     }
   where
     no_log : IsSound []
@@ -215,6 +218,7 @@ created_holds f hands s id kind h fresh =
       last = h.last;
       room = h.room;
       low = h.low;
+      foreign = h.foreign;
     }
 
 -- A handle is given away
@@ -282,6 +286,7 @@ gave_holds f hands s id slot uses h at are =
       last = h.last;
       room = h.room;
       low = h.low;
+      foreign = h.foreign;
     }
   where
     past : (j index : ℕ) (v : List QueueSerial) → j ≡ id → uses ≡ v → number_of uses index ≡ use_of f s id index

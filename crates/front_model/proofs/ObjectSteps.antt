@@ -65,6 +65,7 @@ exchanged f hands after s o c also stands hands_stand known h others =
       last = h.last;
       room = h.room;
       low = h.low;
+      foreign = h.foreign;
     }
 
 -- hands that lost one

@@ -115,8 +115,14 @@ module _ (f : Face) (hands : Hands) (s : Link) (index : ℕ) (batch : Batch) (h 
         last = λ i of. last i of (cases_eq i index);
         room = λ i of. put_holds (λ n. n < 18446744073709551615) f.last index (f.last index + 1) i (λ e. let is : batch.number ≡ f.last index + 1 = next.next in omega (arith, is, room)) (λ ne. h.room i of);
         low = λ i id. low s.mine batch (next.next ∙ ap (λ n. n + 1) (h.last index own) ∙ ap (λ k. last_number (batches_of s.mine) k + 1) (sym next.of_index)) i id (h.low i id);
+        foreign = λ i id far. foreign i id far;
       }
     where
+      foreign : (i id : ℕ) → (IsOfGroup f.group i → ⊥) → last_use (s.mine ++ Enqueued batch ∷ []) i id ≡ 0
+      foreign i id far =
+          let other : batch.index ≢ i = λ e. far (subst (IsOfGroup f.group) (sym next.of_index ∙ e) own) in
+          use_then s.mine batch i id ∙ cond-false ((batch.index == i) && batch_touches batch id) _ _ (and_left (batch.index == i) (batch_touches batch id) (ne_eqb batch.index i other)) ∙ h.foreign i id far
+
       touched : (i id : ℕ) → nodes_touch (put f.pending index [] i) id ≡ true → (i ≡ index) ⊎ (i ≡ index → ⊥) → MayTouch s i (put f.last index (f.last index + 1) i + 1) id
       touched i id touch (inl e) = let no : false ≡ true = sym (ap (λ nodes. nodes_touch nodes id) (put_at f.pending index [] i e)) ∙ touch in cc
       touched i id touch (inr ne) =
@@ -241,4 +247,5 @@ module _ (f : Face) (hands : Hands) (s : Link) (index : ℕ) (nodes : List Node)
         last = h.last;
         room = h.room;
         low = h.low;
+        foreign = h.foreign;
       }

@@ -100,6 +100,7 @@ pub record Holds (f : Face) (hands : Hands) (s : Link) : Type 0 where
   pub last : (index : ℕ) → IsOfGroup f.group index → f.last index ≡ last_number (batches_of s.mine) index
   pub room : (index : ℕ) → IsOfGroup f.group index → f.last index < 18446744073709551615
   pub low : (index id : ℕ) → last_use s.mine index id ≤ last_number (batches_of s.mine) index
+  pub foreign : (index id : ℕ) → (IsOfGroup f.group index → ⊥) → last_use s.mine index id ≡ 0
 
 -- Nothing waits on the object, nothing pending touches it, each batch that does is known to be retired, and what nodes wrote
 -- was made known to the host. So the host may read and write it.
