@@ -5,3 +5,6 @@ pub mod Changed
 pub mod Keeping
 pub mod BufferChanges
 pub mod SyncChanges
+pub mod Tallies
+pub mod Filtered
+pub mod Tied
