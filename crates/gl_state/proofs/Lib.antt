@@ -8,3 +8,4 @@ pub mod SyncChanges
 pub mod Tallies
 pub mod Filtered
 pub mod Tied
+pub mod Gone

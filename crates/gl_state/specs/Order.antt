@@ -6,6 +6,7 @@ use Rattle.gl_model.specs.declared.state.GroupState.{GroupState}
 use Rattle.gl_model.specs.declared.state.Names.{Names}
 use Rattle.gl_model.specs.Bindings.{same_option}
 use Rattle.gl_model.specs.GroupEffect.{swept, names_object}
+use Rattle.gl_state.specs.declared.nameless.Nameless.{Nameless}
 
 abbrev pub AreAbove : {V : Type 0} → ℕ → Entries V → Type 0
 AreAbove key [] = Unit {0}
@@ -39,3 +40,14 @@ pub record IsTied {V : Type 0} (names : Names) (objects : Entries V) (nameless :
   pub once : (b : ℕ) → names_of names b ≤ 1
   pub later : (b : ℕ) → names.made ≤ b → names_of names b ≡ 0
   pub fresh : (b : ℕ) → names.made ≤ b → has b objects ≡ false
+
+-- the names and objects of all kinds are tied
+pub record AreTied (group : GroupState) (nameless : Nameless) : Type 0 where
+  pub buffers : IsTied group.buffer_names group.buffers nameless.buffers
+  pub textures : IsTied group.texture_names group.textures nameless.textures
+  pub renderbuffers : IsTied group.renderbuffer_names group.renderbuffers nameless.renderbuffers
+
+-- What holds of each state and of the objects without a name that are listed beside it.
+pub record IsWhole (group : GroupState) (nameless : Nameless) : Type 0 where
+  pub kept : IsKept group
+  pub tied : AreTied group nameless

@@ -4,15 +4,19 @@
 mod apply;
 mod buffers;
 mod contexts;
+mod nameless;
 mod parameters;
+mod references;
 mod refusal;
 mod state;
+mod sweep;
 mod syncs;
 #[cfg(test)]
 mod tests;
 
 pub use apply::apply_plain;
 pub use buffers::{buffer_data, map_buffer_range, unmap_buffer};
+pub use nameless::{Ended, Nameless};
 pub use parameters::{get_error, pixel_store, scissor_box, scissor_test};
 pub use refusal::refuse;
 pub use state::SharedState;
