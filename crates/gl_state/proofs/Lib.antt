@@ -9,3 +9,5 @@ pub mod Tallies
 pub mod Filtered
 pub mod Tied
 pub mod Gone
+pub mod Whole
+pub mod SweptStates

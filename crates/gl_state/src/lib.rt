@@ -4,6 +4,7 @@
 mod apply;
 mod buffers;
 mod contexts;
+mod egl;
 mod nameless;
 mod parameters;
 mod references;
@@ -16,6 +17,7 @@ mod tests;
 
 pub use apply::apply_plain;
 pub use buffers::{buffer_data, map_buffer_range, unmap_buffer};
+pub use egl::{create_context, destroy_context, make_current};
 pub use nameless::{Ended, Nameless};
 pub use parameters::{get_error, pixel_store, scissor_box, scissor_test};
 pub use refusal::refuse;
