@@ -39,7 +39,7 @@ without_all-only p (e ∷ t) rising = step (p e.0) (without_all-only p t rising.
     step true rest = ap (without_all (keys_of (only p t))) (without_head e.0 e t refl) ∙ rest
     step false rest = without_all-past e (keys_of (only p t)) t (keys_above p e.0 t rising.0) ∙ ap (λ xs. e ∷ xs) rest
 
-keys_of-key_set : {V : Type 0} (t : Entries V) → keys_of (key_set t) ≡ keys_of t
+pub keys_of-key_set : {V : Type 0} (t : Entries V) → keys_of (key_set t) ≡ keys_of t
 keys_of-key_set [] = refl
 keys_of-key_set (e ∷ t) = ap (λ ks. e.0 ∷ ks) (keys_of-key_set t)
 

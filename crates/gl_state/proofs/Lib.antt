@@ -11,3 +11,6 @@ pub mod Tied
 pub mod Gone
 pub mod Whole
 pub mod SweptStates
+pub mod Current
+pub mod NameChanges
+pub mod Deleted

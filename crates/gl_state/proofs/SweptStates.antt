@@ -42,6 +42,10 @@ IsKept-swept g contexts buffers = record {
 pub IsWhole-swept : (g h : GroupState) (nameless : Nameless) → h ≡ swept g → IsRising g.contexts → IsRising g.buffers → AreTied h nameless → IsWhole h nameless
 IsWhole-swept g h nameless same contexts buffers tied = record { kept = rw same (IsKept-swept g contexts buffers); tied = tied }
 
+-- the same where the names and objects were tied before the sweep
+pub IsWhole-after_sweep : (g h : GroupState) (before nameless : Nameless) → h ≡ swept g → IsRising g.contexts → AreTied g before → AreTied h nameless → IsWhole h nameless
+IsWhole-after_sweep g h before nameless same contexts tied_before tied = IsWhole-swept g h nameless same contexts tied_before.buffers.rising tied
+
 pub IsRising-destroyed : (number : ℕ) (t : Entries Context) → IsRising t → IsRising (destroyed number t)
 IsRising-destroyed number t rising =
     IsRising-changed (λ e. cond (e.0 == number) (record e.1 { marked = true }) e.1) (filter (λ e. not (e.0 == number && not (is_some e.1.thread))) t)

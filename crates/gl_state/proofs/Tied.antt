@@ -100,7 +100,7 @@ module _ {V : Type 0} (names : Names) (objects : Entries V) (nameless : Entries 
               sym (same_counts names (record { objects = with_entry name (Some names.made) names.objects; made = names.made + 1 }) b still)
         ]
 
-    one_named : names_object (record { objects = with_entry name (Some names.made) names.objects; made = names.made + 1 }) names.made ≡ true
+    pub one_named : names_object (record { objects = with_entry name (Some names.made) names.objects; made = names.made + 1 }) names.made ≡ true
     one_named =
         let one : names_of (record { objects = with_entry name (Some names.made) names.objects; made = names.made + 1 }) names.made ≡ 1 = omega (arith, made_counts names.made, bit_same names.made refl, tied.later names.made (omega arith)) in
         named-counted (record { objects = with_entry name (Some names.made) names.objects; made = names.made + 1 }) names.made ∙ ap (λ n. not (n == 0)) one

@@ -1,7 +1,7 @@
 -- Changes of the context that is current on a thread.
 use Rattle.std.specs.Prelude.{ℕ, ◌==◌, Option, map, if◌then◌else◌}
 use Rattle.std.specs.Option.{option_and_then, option_map, option_map_or}
-use Rattle.tables.specs.Table.{Entries, entry, with_entry}
+use Rattle.tables.specs.Table.{Entries, entry, with_entry, with_value}
 use Rattle.gl_calls.specs.declared.words.BufferTarget.{BufferTarget}
 use Rattle.gl_model.specs.declared.objects.BufferFacts.{BufferFacts}
 use Rattle.gl_model.specs.declared.state.Context.{Context}
@@ -33,3 +33,7 @@ bound_number group thread target = option_and_then (λ c. buffer_binding c targe
 abbrev pub changed_buffer : Option ℕ → (BufferFacts → BufferFacts) → Entries BufferFacts → Entries BufferFacts
 changed_buffer number change buffers =
     option_map_or (λ b. option_map_or (λ f. with_entry b (change f) buffers) (entry b buffers) buffers) number buffers
+
+-- the value of a key changed, where the table has the key
+abbrev pub changed_at : {V : Type 0} → ℕ → (V → V) → Entries V → Entries V
+changed_at key change table = option_map_or (λ v. with_value key table (change v)) (entry key table) table

@@ -2,10 +2,12 @@
 #![tactic(auto)]
 
 mod apply;
+mod bindings;
 mod buffers;
 mod contexts;
 mod egl;
 mod nameless;
+mod names;
 mod parameters;
 mod references;
 mod refusal;
@@ -16,6 +18,7 @@ mod syncs;
 mod tests;
 
 pub use apply::apply_plain;
+pub use bindings::{bind_buffer, delete_buffer};
 pub use buffers::{buffer_data, map_buffer_range, unmap_buffer};
 pub use egl::{create_context, destroy_context, make_current};
 pub use nameless::{Ended, Nameless};
