@@ -14,3 +14,4 @@ pub mod SweptStates
 pub mod Current
 pub mod NameChanges
 pub mod Deleted
+pub mod Ordered

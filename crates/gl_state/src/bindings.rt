@@ -42,7 +42,7 @@ fn bind_in(contexts: &mut Table<Context>, number: u32, target: BufferTarget, bou
 }
 
 /// A binding that is reset where it names the object.
-fn unbound(bound: Option<u32>, object: u32) -> Option<u32>
+pub fn unbound(bound: Option<u32>, object: u32) -> Option<u32>
     ensures { result ≡ unbound bound object }
 {
     match bound {

@@ -7,13 +7,16 @@ mod buffers;
 mod contexts;
 mod egl;
 mod nameless;
+mod framebuffers;
 mod names;
 mod parameters;
 mod references;
+mod renderbuffers;
 mod refusal;
 mod state;
 mod sweep;
 mod syncs;
+mod textures;
 #[cfg(test)]
 mod tests;
 
@@ -23,6 +26,8 @@ pub use buffers::{buffer_data, map_buffer_range, unmap_buffer};
 pub use egl::{create_context, destroy_context, make_current};
 pub use nameless::{Ended, Nameless};
 pub use parameters::{get_error, pixel_store, scissor_box, scissor_test};
+pub use renderbuffers::{bind_renderbuffer, delete_renderbuffer};
 pub use refusal::refuse;
 pub use state::SharedState;
+pub use textures::{bind_texture, delete_texture};
 pub use syncs::{create_sync, delete_sync, destroy_sync, fence_sync, succeed};
