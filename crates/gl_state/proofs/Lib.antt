@@ -15,3 +15,4 @@ pub mod Current
 pub mod NameChanges
 pub mod Deleted
 pub mod Ordered
+pub mod Images

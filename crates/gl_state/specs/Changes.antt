@@ -56,3 +56,10 @@ without_texture context t = record (detached_from_bound context (Texture t)) { t
 
 abbrev pub without_renderbuffer : Context → ℕ → Context
 without_renderbuffer context r = record (detached_from_bound context (Renderbuffer r)) { renderbuffer = unbound context.renderbuffer r }
+
+-- the texture and the renderbuffer that are bound on a thread, by their numbers
+abbrev pub bound_texture_number : GroupState → ℕ → Option ℕ
+bound_texture_number group thread = option_and_then (λ c. c.texture) (current_context group thread)
+
+abbrev pub bound_renderbuffer_number : GroupState → ℕ → Option ℕ
+bound_renderbuffer_number group thread = option_and_then (λ c. c.renderbuffer) (current_context group thread)
