@@ -5,3 +5,14 @@ pub mod Changed
 pub mod Keeping
 pub mod BufferChanges
 pub mod SyncChanges
+pub mod Tallies
+pub mod Filtered
+pub mod Tied
+pub mod Gone
+pub mod Whole
+pub mod SweptStates
+pub mod Current
+pub mod NameChanges
+pub mod Deleted
+pub mod Ordered
+pub mod Images

@@ -7,7 +7,7 @@ use Rattle.tables.specs.Table.{Entries, entry, with_entry}
 use Rattle.gl_model.proofs.TableLaws.{is_at-nat_cmp}
 use Rattle.gl_state.specs.Order.{AreAbove, IsRising}
 
-above_absent : {V : Type 0} (k : ℕ) (t : Entries V) → AreAbove k t → entry k t ≡ None
+pub above_absent : {V : Type 0} (k : ℕ) (t : Entries V) → AreAbove k t → entry k t ≡ None
 above_absent k [] above = refl
 above_absent k (e ∷ t) above = grind (arith, common_steps, is_at-nat_cmp k e.0, above_absent k t above.1, above.0)
 
@@ -39,19 +39,19 @@ changed_above f k (e ∷ t) above =
     let apart : (e.0 == k) ≡ false = grind (arith, common_steps) in
     rw (apart, changed_above f k t above.1) refl
 
-at_head : {V : Type 0} (k : ℕ) (e : ℕ × V) (t : Entries V) → k ≡ e.0 → entry k (e ∷ t) ≡ Some e.1
+pub at_head : {V : Type 0} (k : ℕ) (e : ℕ × V) (t : Entries V) → k ≡ e.0 → entry k (e ∷ t) ≡ Some e.1
 at_head k e t same = grind (arith, common_steps, is_at-nat_cmp k e.0)
 
-past_head : {V : Type 0} (k : ℕ) (e : ℕ × V) (t : Entries V) → k ≢ e.0 → entry k (e ∷ t) ≡ entry k t
+pub past_head : {V : Type 0} (k : ℕ) (e : ℕ × V) (t : Entries V) → k ≢ e.0 → entry k (e ∷ t) ≡ entry k t
 past_head k e t differs = grind (arith, common_steps, is_at-nat_cmp k e.0)
 
-set_head : {V : Type 0} (k : ℕ) (w : V) (e : ℕ × V) (t : Entries V) → k ≡ e.0 → with_entry k w (e ∷ t) ≡ (e.0, w) ∷ t
+pub set_head : {V : Type 0} (k : ℕ) (w : V) (e : ℕ × V) (t : Entries V) → k ≡ e.0 → with_entry k w (e ∷ t) ≡ (e.0, w) ∷ t
 set_head k w e t same = grind (arith, common_steps)
 
-set_past : {V : Type 0} (k : ℕ) (w : V) (e : ℕ × V) (t : Entries V) → e.0 < k → with_entry k w (e ∷ t) ≡ e ∷ with_entry k w t
+pub set_past : {V : Type 0} (k : ℕ) (w : V) (e : ℕ × V) (t : Entries V) → e.0 < k → with_entry k w (e ∷ t) ≡ e ∷ with_entry k w t
 set_past k w e t below = grind (arith, common_steps)
 
-AreAbove-below : {V : Type 0} (j k : ℕ) (t : Entries V) → j < k → AreAbove k t → AreAbove j t
+pub AreAbove-below : {V : Type 0} (j k : ℕ) (t : Entries V) → j < k → AreAbove k t → AreAbove j t
 AreAbove-below j k [] below above = tt
 AreAbove-below j k (e ∷ t) below above = (omega (arith, below, above.0), AreAbove-below j k t below above.1)
 

@@ -1,3 +1,4 @@
 pub mod Order
 pub mod Changes
 pub mod Quiet
+pub mod Ended

@@ -40,7 +40,7 @@ fn set_store(buffers: &mut Table<BufferFacts>, number: Option<u32>, size: u64)
 }
 
 /// Maps the buffer of a number, or ends its map.
-fn set_map(buffers: &mut Table<BufferFacts>, number: Option<u32>, map: Option<Mapped>)
+pub fn set_map(buffers: &mut Table<BufferFacts>, number: Option<u32>, map: Option<Mapped>)
     ensures { buffers.new ≡ changed_buffer number (λ f. record f { map = map }) buffers.old }
 {
     let Some(buffer) = number else {

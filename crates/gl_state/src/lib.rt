@@ -2,18 +2,38 @@
 #![tactic(auto)]
 
 mod apply;
+mod bindings;
 mod buffers;
 mod contexts;
+mod egl;
+mod nameless;
+mod framebuffer_calls;
+mod framebuffers;
+mod names;
 mod parameters;
+mod references;
+mod renderbuffers;
 mod refusal;
 mod state;
+mod storage;
+mod sweep;
 mod syncs;
+mod textures;
 #[cfg(test)]
 mod tests;
 
 pub use apply::apply_plain;
+pub use bindings::{bind_buffer, delete_buffer};
 pub use buffers::{buffer_data, map_buffer_range, unmap_buffer};
+pub use egl::{create_context, destroy_context, make_current};
+pub use framebuffer_calls::{
+    attach, bind_framebuffer, delete_framebuffer, draw_buffers, read_buffer,
+};
+pub use nameless::{Ended, Nameless};
 pub use parameters::{get_error, pixel_store, scissor_box, scissor_test};
+pub use renderbuffers::{bind_renderbuffer, delete_renderbuffer};
 pub use refusal::refuse;
 pub use state::SharedState;
+pub use storage::{renderbuffer_storage, tex_storage};
+pub use textures::{bind_texture, delete_texture};
 pub use syncs::{create_sync, delete_sync, destroy_sync, fence_sync, succeed};

@@ -1,6 +1,7 @@
 ghost use Rattle.std.specs.Prelude.{◌≡◌, IfOk};
 ghost use Rattle.gl_model.specs.GroupState.{opening_group};
 
+use crate::nameless::Nameless;
 use gl_model::GroupState;
 use std::alloc::{AllocError, Global};
 use std::marker::Model;
@@ -9,17 +10,18 @@ use std::marker::Model;
 #[derive(Drop)]
 pub struct SharedState {
     pub(crate) group: GroupState,
+    pub(crate) nameless: Nameless,
 }
 
 impl Model for SharedState {
     ghost use Rattle.gl_model.specs.declared.state.GroupState.{GroupState as Group};
-    ghost use Rattle.gl_state.specs.Order.{IsKept};
+    ghost use Rattle.gl_state.specs.Order.{IsWhole};
 
     ghost Value = { Group };
 
     ghost view = { λ s. s.group };
 
-    ghost invariant = { λ s. IsKept s.group };
+    ghost invariant = { λ s. IsWhole s.group s.nameless };
 }
 
 impl SharedState {
@@ -28,7 +30,10 @@ impl SharedState {
         ensures { IfOk result (λ state. state ≡ opening_group threads.now) }
     {
         let group = GroupState::new(alloc, threads)?;
-        Ok(SharedState { group })
+        Ok(SharedState {
+            group,
+            nameless: Nameless::new(alloc),
+        })
     }
 
     /// The state, for `decide` and other calls that only read it.

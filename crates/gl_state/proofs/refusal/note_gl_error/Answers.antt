@@ -1,4 +1,6 @@
+use Rattle.std.proofs.Common.{refl}
 use Rattle.gl_model.specs.Legal.{with_gl_error}
+use Rattle.gl_state.proofs.Whole.{IsWhole-along}
 use Rattle.gl_state.proofs.Changed.{IsKept-after_change, after_change-noted}
 use Rattle.gl_state.proofs.Keeping.{keeps_with_error}
 use Rattle.gl_state.proofs.refusal.note_gl_error.Goals as goal
@@ -6,9 +8,10 @@ use Rattle.gl_state.proofs.refusal.note_gl_error.Goals as goal
 pub invariant_of-state : goal.invariant_of-state
 invariant_of-state c =
     rw (c.note_error.ensures, c.current_number-number.ensures)
-    (IsKept-after_change c.state.inside.group c.args.thread (with_gl_error c.args.error) c.state.invariant (keeps_with_error c.args.error))
+    (IsWhole-along c.state.inside.group _ c.state.inside.nameless c.state.invariant
+    (IsKept-after_change c.state.inside.group c.args.thread (with_gl_error c.args.error) c.state.invariant.kept (keeps_with_error c.args.error)) refl refl refl refl refl refl)
 
 pub returns : goal.returns
 returns c =
     rw (c.note_error.ensures, c.current_number-number.ensures, ← c.state.view_is)
-    (after_change-noted c.state.inside.group c.args.thread (with_gl_error c.args.error) c.state.invariant)
+    (after_change-noted c.state.inside.group c.args.thread (with_gl_error c.args.error) c.state.invariant.kept)

@@ -1,0 +1,13 @@
+use Rattle.std.proofs.Common.{refl, ◌∙◌}
+use Rattle.gl_state.proofs.SweptStates.{IsWhole-swept, IsRising-taken}
+use Rattle.gl_state.proofs.egl.make_current.Goals as goal
+
+pub invariant_of-state : goal.invariant_of-state
+invariant_of-state c =
+    IsWhole-swept _ _ _ c.sweep.ensures.swept
+    (rw (c.take.ensures, c.let_go_of.ensures) (IsRising-taken c.args.thread c.from.result c.state.inside.group.contexts c.state.invariant.kept.contexts))
+    c.state.invariant.kept.buffers c.sweep.ensures.tied
+
+pub returns-clause-ok : goal.returns-clause-ok
+returns-clause-ok c =
+    c.sweep.ensures.swept ∙ rw (c.replace.ensures, c.take.ensures, c.let_go_of.ensures, c.from.ensures, ← c.state.view_is) refl
