@@ -1,10 +1,15 @@
 //! The front of one share group: a call comes in and a reply goes out.
 #![tactic(auto)]
 
+mod buffer_calls;
 mod buffers;
 mod comes_to;
+mod context_calls;
 mod core;
+mod map_calls;
 mod moves;
 mod pending;
 mod recording;
+mod share;
+mod state_calls;
 mod stores;

@@ -24,6 +24,7 @@ mod tests;
 
 pub use apply::apply_plain;
 pub use bindings::{bind_buffer, delete_buffer};
+pub use contexts::current_number;
 pub use buffers::{buffer_data, map_buffer_range, unmap_buffer};
 pub use egl::{create_context, destroy_context, make_current};
 pub use framebuffer_calls::{
