@@ -1,10 +1,10 @@
 -- What the groups of a run made, and what they still hold.
 use Rattle.std.proofs.Common.{◌≡◌, ℕ, ◌+◌, ◌≤◌, true, false, List, [], ◌∷◌, ◌++◌, length, refl, sym, ap, ◌∙◌, subst, inl, inr, arith}
 use Rattle.std.specs.Prelude.{◌/◌, ◌⊎◌, Some, slice_get}
-use Rattle.std.proofs.lemmas.Bool.{cases_eq}
+use Rattle.std.proofs.lemmas.Bool.{cases_eq, false≢true}
 use Rattle.std.proofs.lemmas.List.{append-nil, append_assoc}
 use Rattle.std.proofs.lemmas.List.Elements.{All-nil}
-use Rattle.std.proofs.lemmas.Option.{none-some}
+use Rattle.std.proofs.lemmas.Option.{none-some, same_Some}
 use Rattle.vk_types.specs.declared.handles.Kind.{Kind}
 use Rattle.vk_types.specs.declared.batches.Batch.{Batch}
 use Rattle.vk_device.specs.declared.logged.Logged.{Logged}
@@ -22,6 +22,7 @@ use Rattle.back_core.proofs.Runs.{of_each_run, journal_nil, journal_then}
 use Rattle.back_core.proofs.Parts.{either, pushed, pushed_then, pushed_same, pushed_in}
 use Rattle.back_core.proofs.Lists.{get_then}
 use Rattle.back_core.proofs.Made.{put_here, put_other, IsMade, IsKnown, known_weaker, known_created, known_wrote, known_fetched, known_enqueued, known_abandoned, known_gave, touch_made}
+use Rattle.back_core.specs.Needs.{MayTouch}
 
 -- The count of creates
 
@@ -53,7 +54,7 @@ module _ (h : List BackEvent) (so_far : AllKnown h) (g : ℕ) where
   known_after (Enqueued b) may =
       known_weaker (creates (journal_of h)) _
       (either (IsKnown (creates (journal_of h))) h g (b.index / 8) (enqueued (own_part h g) b)
-      (λ e. known_enqueued (creates (journal_of h)) (own_part h g) (so_far g) b (subst (λ k. (id : ℕ) → batch_touches b id ≡ true → Rattle.back_core.specs.Needs.MayTouch (own_part h k) b.index b.number id) e may.1.touched)) (λ d. so_far g))
+      (λ e. known_enqueued (creates (journal_of h)) (own_part h g) (so_far g) b (subst (λ k. (id : ℕ) → batch_touches b id ≡ true → MayTouch (own_part h k) b.index b.number id) e may.1.touched)) (λ d. so_far g))
       (creates (journal_of (h ++ Enqueued b ∷ []))) (creates_later h (Enqueued b))
   known_after Submitted may = known_weaker (creates (journal_of h)) (own_part h g) (so_far g) (creates (journal_of (h ++ Submitted ∷ []))) (creates_later h Submitted)
   known_after (Ran batch node) may = known_weaker (creates (journal_of h)) (own_part h g) (so_far g) (creates (journal_of (h ++ Ran batch node ∷ []))) (creates_later h (Ran batch node))
@@ -80,7 +81,7 @@ known = of_each_run AllKnown (subst (λ j. (g : ℕ) → IsKnown (creates j) (ow
     lower : (g : ℕ) → IsKnown (creates []) (own_part [] g)
     lower g = record {
       low = λ id kind at. absurd (none-some kind at);
-      held_made = λ id held. absurd (Rattle.std.proofs.lemmas.Bool.false≢true held);
+      held_made = λ id held. absurd (false≢true held);
       held_kept = λ id held. refl;
       given_made = λ id uses at. absurd (none-some uses at);
       untouched = λ id none. All-nil (λ x. own_touches x id ≡ false);
@@ -111,7 +112,7 @@ module _ (h : List BackEvent) (g i : ℕ) where
   new_or_old id kind k at = go (cases_eq i id)
     where
       go : (i ≡ id) ⊎ (i ≡ id → ⊥) → ((own_part h g).kinds i ≡ Some k) ⊎ ((i ≡ id) × (kind ≡ k))
-      go (inl same) = inr (same, Rattle.std.proofs.lemmas.Option.same_Some kind k (sym (put_here (own_part h g).kinds id (Some kind) i same) ∙ at))
+      go (inl same) = inr (same, same_Some kind k (sym (put_here (own_part h g).kinds id (Some kind) i same) ∙ at))
       go (inr other) = inl (sym (put_other (own_part h g).kinds id (Some kind) i other) ∙ at)
 
   before : (e : BackEvent) → Before e (link_after (own_part h g) e)

@@ -27,10 +27,12 @@ use Rattle.back_core.proofs.Made.{IsMade}
 use Rattle.back_core.proofs.Known.{Makes, known, one_group, made_before}
 use Rattle.back_core.proofs.Piles.{IsIn, in_front, in_back, in_parts, IsAway, left_in, left_or_covered, away_part, away_from_taken, covered_number}
 use Rattle.back_core.proofs.Given.{Gives, given_before, none_before, WasGiven, garbage_given}
+use Rattle.vk_types.specs.declared.batches.Batch.{Batch}
+use Rattle.submit_queue.specs.Histories.{reach}
 
 -- Completed numbers do not fall
 
-reach_short : (test : ℕ → Bool) (n more : ℕ) → Rattle.submit_queue.specs.Histories.reach test n more ≤ n + more
+reach_short : (test : ℕ → Bool) (n more : ℕ) → reach test n more ≤ n + more
 reach_short test n zero = omega arith
 reach_short test n (suc more) = go (cases_Bool (test (suc n))) (reach_short test (suc n) more)
   where
@@ -166,7 +168,7 @@ all_live = of_each_run AllLive (λ g i kind made. absurd (none-some kind made)) 
     nothing : (h : List BackEvent) (i : ℕ) → kind_of (journal_of h ++ []) i ≡ kind_of (journal_of h) i
     nothing h i = ap (λ j. kind_of j i) (append-nil (journal_of h))
 
-    accepted : (h : List BackEvent) (o : Option Rattle.vk_types.specs.declared.batches.Batch.Batch) (i : ℕ) → kind_of (journal_of h ++ submission o) i ≡ kind_of (journal_of h) i
+    accepted : (h : List BackEvent) (o : Option Batch) (i : ℕ) → kind_of (journal_of h ++ submission o) i ≡ kind_of (journal_of h) i
     accepted h None i = nothing h i
     accepted h (Some b) i = kind_after (journal_of h) (logged.Submitted b) i
 
