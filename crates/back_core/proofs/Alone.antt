@@ -12,7 +12,7 @@ use Rattle.vk_device.specs.Journal.{accepted}
 use Rattle.vk_device.specs.Order.{order_of}
 use Rattle.submit_queue.specs.Histories as queue
 use Rattle.back_core.specs.declared.back_event.BackEvent.{BackEvent}
-use Rattle.back_core.specs.Own.{batch_touches}
+use Rattle.back_core.specs.Own.{batch_touches, last_use}
 use Rattle.back_core.specs.Needs.{HostMay}
 use Rattle.back_core.specs.History.{queue_history, completed, link_of, own_part}
 use Rattle.back_core.specs.Run.{journal_of, IsRun, IsLeftAlone}
@@ -55,5 +55,5 @@ left_alone h id run all = record {
 pub host_alone : (h : List BackEvent) (g id at size : ℕ) → IsRun h → HostMay (link_of h g) id at size → IsLeftAlone h id
 host_alone h g id at size run may = left_alone h id run (λ k b is touched.
     let own : b.index / 8 ≡ g = one_group h run (b.index / 8) g id (touches_own h run k id b is touched) ((known h run g).held_made id may.held) in
-    let used : b.number ≤ Rattle.back_core.specs.Own.last_use (own_part h g).mine b.index id = use_counts h g k id b is own touched in
+    let used : b.number ≤ last_use (own_part h g).mine b.index id = use_counts h g k id b is own touched in
     omega (arith, used, may.retired b.index))

@@ -19,10 +19,13 @@ use Rattle.back_core.specs.History.{own_part}
 use Rattle.back_core.specs.Run.{MayHappen, IsRun}
 use Rattle.back_core.proofs.Runs.{of_each_run}
 use Rattle.back_core.proofs.Lists.{get_then}
-use Rattle.back_core.proofs.Parts.{pushed, pushed_in, pushed_then, pushed_same}
+use Rattle.back_core.proofs.Parts.{pushed, pushed_in, pushed_then, pushed_same, either}
 use Rattle.back_core.proofs.Made.{IsMade}
 use Rattle.back_core.proofs.Known.{kind_stays, touches_own}
 use Rattle.back_core.proofs.Alone.{any_of}
+use Rattle.back_core.specs.Link.{enqueued, Link}
+use Rattle.back_core.proofs.Sees.{part_then}
+use Rattle.vk_types.specs.declared.regions.Touch.{Touch}
 
 module _ (kinds kinds' : ℕ → Option Kind) where
   abbrev Same : ℕ → Type 0
@@ -41,7 +44,7 @@ module _ (kinds kinds' : ℕ → Option Kind) where
   image id same = subst IsImage same
 
   -- an operation that touches objects of the same kinds fits them too
-  op_fits : (o : Op) → ((t : Rattle.vk_types.specs.declared.regions.Touch.Touch) → (k : ℕ) → slice_get (op_touches o) k ≡ Some t → Same t.id.0) → OpFits kinds o → OpFits kinds' o
+  op_fits : (o : Op) → ((t : Touch) → (k : ℕ) → slice_get (op_touches o) k ≡ Some t → Same t.id.0) → OpFits kinds o → OpFits kinds' o
   op_fits (CopyBuffer src src_at dst dst_at size) same fits = (range src.0 src_at size (same _ 0 refl) fits.0, range dst.0 dst_at size (same _ 1 refl) fits.1, fits.2)
   op_fits (BufferToImage src src_at stride texel_size dst r) same fits =
       (range src.0 src_at (rows_size r stride texel_size) (same _ 0 refl) fits.0, rect dst.0 r (same _ 1 refl) fits.1, texels dst.0 texel_size (same _ 1 refl) fits.2)
@@ -90,8 +93,8 @@ all_fit = of_each_run AllFit (λ k b at. absurd (none-some b at)) step
     step h (Enqueued c) run may so_far = λ k b at. go k b at (get_then (pushed h) c k b (subst (λ l. slice_get l k ≡ Some b) (pushed_then h (Enqueued c)) at))
       where
         kinds_stay : (g : ℕ) → (own_part (h ++ Enqueued c ∷ []) g).kinds ≡ (own_part h g).kinds
-        kinds_stay g = ap (λ (l : Rattle.back_core.specs.Link.Link). l.kinds) (Rattle.back_core.proofs.Sees.part_then h g (Enqueued c))
-            ∙ Rattle.back_core.proofs.Parts.either (λ l. l.kinds ≡ (own_part h g).kinds) h g (c.index / 8) (Rattle.back_core.specs.Link.enqueued (own_part h g) c) (λ e. refl) (λ d. refl)
+        kinds_stay g = ap (λ (l : Link). l.kinds) (part_then h g (Enqueued c))
+            ∙ either (λ l. l.kinds ≡ (own_part h g).kinds) h g (c.index / 8) (enqueued (own_part h g) c) (λ e. refl) (λ d. refl)
 
         go : (k : ℕ) (b : Batch) → slice_get (pushed (h ++ Enqueued c ∷ [])) k ≡ Some b → (slice_get (pushed h) k ≡ Some b) ⊎ ((k ≡ length (pushed h)) × (b ≡ c)) → All (NodeFits (own_part (h ++ Enqueued c ∷ []) (b.index / 8)).kinds) b.nodes
         go k b at (inl there) = old h (Enqueued c) run may b (λ i touched. touches_own h run k i b there touched) (so_far k b there)

@@ -14,12 +14,12 @@ use Rattle.submit_queue.specs.Histories as queue
 use Rattle.back_core.specs.declared.back_event.BackEvent.{BackEvent}
 use Rattle.back_core.specs.declared.back_event.BackEvent.TheVariants.{Created, Wrote, Enqueued, Submitted, Ran, Retired, Fetched, Gave, Abandoned, Cleaned, Closing, Stopped}
 use Rattle.back_core.specs.Needs.{MayEnqueue}
-use Rattle.back_core.specs.History.{queue_history, completed, link_of, own_part}
+use Rattle.back_core.specs.History.{queue_history, completed, link_of, queue_event}
 use Rattle.back_core.specs.Run.{MayHappen, IsRun}
 use Rattle.back_core.proofs.Sees.{queue_then, queue_same}
 use Rattle.back_core.proofs.Runs.{of_each_run}
 use Rattle.back_core.proofs.Lists.{some_at}
-use Rattle.back_core.proofs.Parts.{pushed, pushed_then, pushed_same, own_last_number}
+use Rattle.back_core.proofs.Parts.{pushed, pushed_then, pushed_same, own_last_number, pushed_in}
 use Rattle.back_core.proofs.Numbered.{AreNumbered, none_numbered, numbered_then, AreGoing, is_past, going_pushed, going_accepted, going_ran, going_retired, reach_holds, reach_known}
 
 -- Numbers
@@ -31,7 +31,7 @@ next_in_all h b may = may.next ∙ ap (λ n. n + 1) (own_last_number h (b.index 
 pub numbered : (h : List BackEvent) → IsRun h → AreNumbered (pushed h)
 numbered = of_each_run (λ h. AreNumbered (pushed h)) none_numbered step
   where
-    same : (h : List BackEvent) (e : BackEvent) → Rattle.back_core.proofs.Parts.pushed_in e ≡ [] → AreNumbered (pushed h) → AreNumbered (pushed (h ++ e ∷ []))
+    same : (h : List BackEvent) (e : BackEvent) → pushed_in e ≡ [] → AreNumbered (pushed h) → AreNumbered (pushed (h ++ e ∷ []))
     same h e none are = subst AreNumbered (sym (pushed_same h e none)) are
 
     step : (h : List BackEvent) (e : BackEvent) → IsRun h → MayHappen h e → AreNumbered (pushed h) → AreNumbered (pushed (h ++ e ∷ []))
@@ -155,7 +155,7 @@ none_goes = record {
 pub goes : (h : List BackEvent) → IsRun h → Goes (queue_history h)
 goes = of_each_run (λ h. Goes (queue_history h)) none_goes step
   where
-    same : (h : List BackEvent) (e : BackEvent) → Rattle.back_core.specs.History.queue_event e ≡ [] → Goes (queue_history h) → Goes (queue_history (h ++ e ∷ []))
+    same : (h : List BackEvent) (e : BackEvent) → queue_event e ≡ [] → Goes (queue_history h) → Goes (queue_history (h ++ e ∷ []))
     same h e none going = subst Goes (sym (queue_same h e none)) going
 
     step : (h : List BackEvent) (e : BackEvent) → IsRun h → MayHappen h e → Goes (queue_history h) → Goes (queue_history (h ++ e ∷ []))

@@ -22,6 +22,7 @@ use Rattle.back_core.proofs.Lists.{some_at, take_then, get_taken}
 use Rattle.back_core.proofs.Parts.{pushed}
 use Rattle.back_core.proofs.Going.{numbered, goes, accepted_next, batches_next, batches_stay, ran_next, ran_stays}
 use Rattle.back_core.proofs.Placed.{IsPlaced, none_placed, placed_quiet, placed_wrote, placed_submitted, placed_ran}
+use Rattle.vk_types.specs.declared.handles.HandleId.{HandleId}
 
 -- the device accepted the first batches of the queue, and its log has their nodes
 pub record AreInStep (q : List queue.Event) (journal : List Logged) : Type 0 where
@@ -43,7 +44,7 @@ module _ (q : List queue.Event) (journal : List Logged) (has : AreInStep q journ
     placed = placed_quiet journal entry (queue.has_run q) no_item no_batch no_place has.placed;
   }
 
-  in_step_wrote : (id : Rattle.vk_types.specs.declared.handles.HandleId.HandleId) (at : ℕ) (bytes : List ℕ) → AreInStep q (journal ++ logged.Wrote id at bytes ∷ [])
+  in_step_wrote : (id : HandleId) (at : ℕ) (bytes : List ℕ) → AreInStep q (journal ++ logged.Wrote id at bytes ∷ [])
   in_step_wrote id at bytes = record {
     accepted_is = accepted_same journal (logged.Wrote id at bytes) refl ∙ has.accepted_is;
     placed = placed_wrote journal id at bytes (queue.has_run q) has.placed;

@@ -1,7 +1,7 @@
 -- What the groups of a run made, and what they still hold.
 use Rattle.std.proofs.Common.{◌≡◌, ℕ, ◌+◌, ◌≤◌, true, false, List, [], ◌∷◌, ◌++◌, length, refl, sym, ap, ◌∙◌, subst, inl, inr, arith}
 use Rattle.std.specs.Prelude.{◌/◌, ◌⊎◌, Some, slice_get}
-use Rattle.std.proofs.lemmas.Bool.{cases_eq}
+use Rattle.std.proofs.lemmas.Bool.{false≢true}
 use Rattle.std.proofs.lemmas.List.{append-nil, append_assoc}
 use Rattle.std.proofs.lemmas.List.Elements.{All-nil}
 use Rattle.std.proofs.lemmas.Option.{none-some}
@@ -14,14 +14,16 @@ use Rattle.vk_device.proofs.Laws.{creates-push}
 use Rattle.back_core.specs.declared.back_event.BackEvent.{BackEvent}
 use Rattle.back_core.specs.declared.back_event.BackEvent.TheVariants.{Created, Wrote, Enqueued, Submitted, Ran, Retired, Fetched, Gave, Abandoned, Cleaned, Closing, Stopped}
 use Rattle.back_core.specs.Own.{own_touches, batch_touches}
-use Rattle.back_core.specs.Link.{Link, put, created, wrote, enqueued, fetched, gave, abandoned}
+use Rattle.back_core.specs.Link.{Link, created, wrote, enqueued, fetched, gave, abandoned}
 use Rattle.back_core.specs.History.{link_after, own_part}
 use Rattle.back_core.specs.Run.{logged_by, journal_of, MayHappen, IsRun}
 use Rattle.back_core.proofs.Sees.{part_then}
 use Rattle.back_core.proofs.Runs.{of_each_run, journal_nil, journal_then}
 use Rattle.back_core.proofs.Parts.{either, pushed, pushed_then, pushed_same, pushed_in}
 use Rattle.back_core.proofs.Lists.{get_then}
-use Rattle.back_core.proofs.Made.{put_here, put_other, IsMade, IsKnown, known_weaker, known_created, known_wrote, known_fetched, known_enqueued, known_abandoned, known_gave, touch_made}
+use Rattle.back_core.proofs.Adding.{IsCreated, made_then}
+use Rattle.back_core.proofs.Made.{put_other, IsMade, IsKnown, known_weaker, known_created, known_wrote, known_fetched, known_enqueued, known_abandoned, known_gave, touch_made}
+use Rattle.back_core.specs.Needs.{MayTouch}
 
 -- The count of creates
 
@@ -53,7 +55,7 @@ module _ (h : List BackEvent) (so_far : AllKnown h) (g : ℕ) where
   known_after (Enqueued b) may =
       known_weaker (creates (journal_of h)) _
       (either (IsKnown (creates (journal_of h))) h g (b.index / 8) (enqueued (own_part h g) b)
-      (λ e. known_enqueued (creates (journal_of h)) (own_part h g) (so_far g) b (subst (λ k. (id : ℕ) → batch_touches b id ≡ true → Rattle.back_core.specs.Needs.MayTouch (own_part h k) b.index b.number id) e may.1.touched)) (λ d. so_far g))
+      (λ e. known_enqueued (creates (journal_of h)) (own_part h g) (so_far g) b (subst (λ k. (id : ℕ) → batch_touches b id ≡ true → MayTouch (own_part h k) b.index b.number id) e may.1.touched)) (λ d. so_far g))
       (creates (journal_of (h ++ Enqueued b ∷ []))) (creates_later h (Enqueued b))
   known_after Submitted may = known_weaker (creates (journal_of h)) (own_part h g) (so_far g) (creates (journal_of (h ++ Submitted ∷ []))) (creates_later h Submitted)
   known_after (Ran batch node) may = known_weaker (creates (journal_of h)) (own_part h g) (so_far g) (creates (journal_of (h ++ Ran batch node ∷ []))) (creates_later h (Ran batch node))
@@ -80,64 +82,16 @@ known = of_each_run AllKnown (subst (λ j. (g : ℕ) → IsKnown (creates j) (ow
     lower : (g : ℕ) → IsKnown (creates []) (own_part [] g)
     lower g = record {
       low = λ id kind at. absurd (none-some kind at);
-      held_made = λ id held. absurd (Rattle.std.proofs.lemmas.Bool.false≢true held);
+      held_made = λ id held. absurd (false≢true held);
       held_kept = λ id held. refl;
       given_made = λ id uses at. absurd (none-some uses at);
       untouched = λ id none. All-nil (λ x. own_touches x id ≡ false);
     }
 
--- Kinds
-
--- the kind with which an event makes an object for a group
-abbrev pub Makes : BackEvent → ℕ → ℕ → Kind → Type 0
-Makes (Created group id kind) g i k = (group ≡ g) × (i ≡ id.0) × (kind ≡ k)
-Makes (Wrote group id at bytes) g i k = ⊥
-Makes (Enqueued b) g i k = ⊥
-Makes Submitted g i k = ⊥
-Makes (Ran batch node) g i k = ⊥
-Makes (Retired serial) g i k = ⊥
-Makes (Fetched group id at bytes) g i k = ⊥
-Makes (Gave group id uses) g i k = ⊥
-Makes (Abandoned group id) g i k = ⊥
-Makes (Cleaned read destroyed) g i k = ⊥
-Makes Closing g i k = ⊥
-Makes (Stopped stop) g i k = ⊥
-
-module _ (h : List BackEvent) (g i : ℕ) where
-  abbrev Before : BackEvent → Link → Type 0
-  Before e l = (k : Kind) → l.kinds i ≡ Some k → ((own_part h g).kinds i ≡ Some k) ⊎ Makes e g i k
-
-  new_or_old : (id : ℕ) (kind k : Kind) → put (own_part h g).kinds id (Some kind) i ≡ Some k → ((own_part h g).kinds i ≡ Some k) ⊎ ((i ≡ id) × (kind ≡ k))
-  new_or_old id kind k at = go (cases_eq i id)
-    where
-      go : (i ≡ id) ⊎ (i ≡ id → ⊥) → ((own_part h g).kinds i ≡ Some k) ⊎ ((i ≡ id) × (kind ≡ k))
-      go (inl same) = inr (same, Rattle.std.proofs.lemmas.Option.same_Some kind k (sym (put_here (own_part h g).kinds id (Some kind) i same) ∙ at))
-      go (inr other) = inl (sym (put_other (own_part h g).kinds id (Some kind) i other) ∙ at)
-
-  before : (e : BackEvent) → Before e (link_after (own_part h g) e)
-  before (Created group id kind) = either (Before (Created group id kind)) h g group (created (own_part h g) id.0 kind) (λ e k at. made e k (new_or_old id.0 kind k at)) (λ d k at. inl at)
-    where
-      made : group ≡ g → (k : Kind) → ((own_part h g).kinds i ≡ Some k) ⊎ ((i ≡ id.0) × (kind ≡ k)) → ((own_part h g).kinds i ≡ Some k) ⊎ ((group ≡ g) × (i ≡ id.0) × (kind ≡ k))
-      made e k (inl old) = inl old
-      made e k (inr new) = inr (e, new.0, new.1)
-  before (Wrote group id at bytes) = either (Before (Wrote group id at bytes)) h g group (wrote (own_part h g) id.0 at bytes) (λ e k is. inl is) (λ d k is. inl is)
-  before (Enqueued b) = either (Before (Enqueued b)) h g (b.index / 8) (enqueued (own_part h g) b) (λ e k is. inl is) (λ d k is. inl is)
-  before Submitted = λ k is. inl is
-  before (Ran batch node) = λ k is. inl is
-  before (Retired serial) = λ k is. inl is
-  before (Fetched group id at bytes) = either (Before (Fetched group id at bytes)) h g group (fetched (own_part h g) id.0 at bytes) (λ e k is. inl is) (λ d k is. inl is)
-  before (Gave group id uses) = either (Before (Gave group id uses)) h g group (gave (own_part h g) id.0 uses) (λ e k is. inl is) (λ d k is. inl is)
-  before (Abandoned group id) = either (Before (Abandoned group id)) h g group (abandoned (own_part h g) id.0) (λ e k is. inl is) (λ d k is. inl is)
-  before (Cleaned read destroyed) = λ k is. inl is
-  before Closing = λ k is. inl is
-  before (Stopped stop) = λ k is. inl is
-
-  -- an object that a group has made was made before, or by the last event
-  pub made_before : (e : BackEvent) (k : Kind) → (own_part (h ++ e ∷ []) g).kinds i ≡ Some k → ((own_part h g).kinds i ≡ Some k) ⊎ Makes e g i k
-  made_before e = subst (Before e) (sym (part_then h g e)) (before e)
+-- Groups and kinds
 
 -- a new object was made by no group before
-pub new_is_new : (h : List BackEvent) (e : BackEvent) → IsRun h → MayHappen h e → (g g' i : ℕ) (k : Kind) → Makes e g i k → IsMade (own_part h g') i → ⊥
+pub new_is_new : (h : List BackEvent) (e : BackEvent) → IsRun h → MayHappen h e → (g g' i : ℕ) (k : Kind) → IsCreated g i k e → IsMade (own_part h g') i → ⊥
 new_is_new h (Created group id kind) run may g g' i k makes made = omega (arith, (known h run g').low i made.0 made.1, makes.1, may.0)
 new_is_new h (Wrote group id at bytes) run may g g' i k makes made = makes
 new_is_new h (Enqueued b) run may g g' i k makes made = makes
@@ -151,7 +105,7 @@ new_is_new h (Cleaned read destroyed) run may g g' i k makes made = makes
 new_is_new h Closing run may g g' i k makes made = makes
 new_is_new h (Stopped stop) run may g g' i k makes made = makes
 
-one_maker : (e : BackEvent) (g g' i : ℕ) (k k' : Kind) → Makes e g i k → Makes e g' i k' → g ≡ g'
+one_maker : (e : BackEvent) (g g' i : ℕ) (k k' : Kind) → IsCreated g i k e → IsCreated g' i k' e → g ≡ g'
 one_maker (Created group id kind) g g' i k k' a b = sym a.0 ∙ b.0
 one_maker (Wrote group id at bytes) g g' i k k' a b = absurd a
 one_maker (Enqueued batch) g g' i k k' a b = absurd a
@@ -168,10 +122,10 @@ one_maker (Stopped stop) g g' i k k' a b = absurd a
 -- an object is of one group
 pub one_group : (h : List BackEvent) → IsRun h → (g g' i : ℕ) → IsMade (own_part h g) i → IsMade (own_part h g') i → g ≡ g'
 one_group = of_each_run (λ h. (g g' i : ℕ) → IsMade (own_part h g) i → IsMade (own_part h g') i → g ≡ g') (λ g g' i a b. absurd (none-some a.0 a.1))
-    (λ h e run may so_far g g' i a b. go h e run may so_far g g' i a.0 b.0 (made_before h g i e a.0 a.1) (made_before h g' i e b.0 b.1))
+    (λ h e run may so_far g g' i a b. go h e run may so_far g g' i a.0 b.0 (made_then h e g i a.0 a.1) (made_then h e g' i b.0 b.1))
   where
     go : (h : List BackEvent) (e : BackEvent) → IsRun h → MayHappen h e → ((g g' i : ℕ) → IsMade (own_part h g) i → IsMade (own_part h g') i → g ≡ g') → (g g' i : ℕ) (k k' : Kind)
-        → ((own_part h g).kinds i ≡ Some k) ⊎ Makes e g i k → ((own_part h g').kinds i ≡ Some k') ⊎ Makes e g' i k' → g ≡ g'
+        → ((own_part h g).kinds i ≡ Some k) ⊎ IsCreated g i k e → ((own_part h g').kinds i ≡ Some k') ⊎ IsCreated g' i k' e → g ≡ g'
     go h e run may so_far g g' i k k' (inl a) (inl b) = so_far g g' i (k, a) (k', b)
     go h e run may so_far g g' i k k' (inr a) (inl b) = absurd (new_is_new h e run may g g' i k a (k', b))
     go h e run may so_far g g' i k k' (inl a) (inr b) = absurd (new_is_new h e run may g' g i k' b (k, a))

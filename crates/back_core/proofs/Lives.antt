@@ -24,13 +24,16 @@ use Rattle.back_core.proofs.Sees.{queue_then}
 use Rattle.back_core.proofs.Runs.{of_each_run, garbage_then, journal_then}
 use Rattle.back_core.proofs.Numbered.{reach_holds, reach_far}
 use Rattle.back_core.proofs.Made.{IsMade}
-use Rattle.back_core.proofs.Known.{Makes, known, one_group, made_before}
+use Rattle.back_core.proofs.Adding.{IsCreated, made_then}
+use Rattle.back_core.proofs.Known.{known, one_group}
 use Rattle.back_core.proofs.Piles.{IsIn, in_front, in_back, in_parts, IsAway, left_in, left_or_covered, away_part, away_from_taken, covered_number}
 use Rattle.back_core.proofs.Given.{Gives, given_before, none_before, WasGiven, garbage_given}
+use Rattle.vk_types.specs.declared.batches.Batch.{Batch}
+use Rattle.submit_queue.specs.Histories.{reach}
 
 -- Completed numbers do not fall
 
-reach_short : (test : ℕ → Bool) (n more : ℕ) → Rattle.submit_queue.specs.Histories.reach test n more ≤ n + more
+reach_short : (test : ℕ → Bool) (n more : ℕ) → reach test n more ≤ n + more
 reach_short test n zero = omega arith
 reach_short test n (suc more) = go (cases_Bool (test (suc n))) (reach_short test (suc n) more)
   where
@@ -151,27 +154,27 @@ pub all_live : (h : List BackEvent) → IsRun h → AllLive h
 all_live = of_each_run AllLive (λ g i kind made. absurd (none-some kind made)) step
   where
     -- an event that makes no object, gives none away, and destroys none
-    same : (h : List BackEvent) (e : BackEvent) → IsRun h → MayHappen h e → garbage_after (garbage_of h) e ≡ garbage_of h → ((g i : ℕ) (kind : Kind) → Makes e g i kind → ⊥)
+    same : (h : List BackEvent) (e : BackEvent) → IsRun h → MayHappen h e → garbage_after (garbage_of h) e ≡ garbage_of h → ((g i : ℕ) (kind : Kind) → IsCreated g i kind e → ⊥)
         → ((i : ℕ) → kind_of (journal_of h ++ logged_by h e) i ≡ kind_of (journal_of h) i) → AllLive h → AllLive (h ++ e ∷ [])
-    same h e run may is makes kinds so_far g i kind made kept = ap (λ j. kind_of j i) (journal_then h e) ∙ (kinds i ∙ go (made_before h g i e kind made))
+    same h e run may is makes kinds so_far g i kind made kept = ap (λ j. kind_of j i) (journal_then h e) ∙ (kinds i ∙ go (made_then h e g i kind made))
       where
         was : IsKept (h ++ e ∷ []) g i → IsKept h g i
         was (inl none) = inl (none_before h e run may g i none)
         was (inr has) = inr (has.0, subst (IsIn has.0) (garbage_then h e ∙ is) has.1, has.2)
 
-        go : ((own_part h g).kinds i ≡ Some kind) ⊎ Makes e g i kind → kind_of (journal_of h) i ≡ Some kind
+        go : ((own_part h g).kinds i ≡ Some kind) ⊎ IsCreated g i kind e → kind_of (journal_of h) i ≡ Some kind
         go (inl old) = so_far g i kind old (was kept)
         go (inr new) = absurd (makes g i kind new)
 
     nothing : (h : List BackEvent) (i : ℕ) → kind_of (journal_of h ++ []) i ≡ kind_of (journal_of h) i
     nothing h i = ap (λ j. kind_of j i) (append-nil (journal_of h))
 
-    accepted : (h : List BackEvent) (o : Option Rattle.vk_types.specs.declared.batches.Batch.Batch) (i : ℕ) → kind_of (journal_of h ++ submission o) i ≡ kind_of (journal_of h) i
+    accepted : (h : List BackEvent) (o : Option Batch) (i : ℕ) → kind_of (journal_of h ++ submission o) i ≡ kind_of (journal_of h) i
     accepted h None i = nothing h i
     accepted h (Some b) i = kind_after (journal_of h) (logged.Submitted b) i
 
     step : (h : List BackEvent) (e : BackEvent) → IsRun h → MayHappen h e → AllLive h → AllLive (h ++ e ∷ [])
-    step h (Created group id new) run may so_far = λ g i kind made kept. ap (λ j. kind_of j i) (journal_then h (Created group id new)) ∙ (kind_after (journal_of h) (logged.Created id new) i ∙ go g i kind kept (made_before h g i (Created group id new) kind made))
+    step h (Created group id new) run may so_far = λ g i kind made kept. ap (λ j. kind_of j i) (journal_then h (Created group id new)) ∙ (kind_after (journal_of h) (logged.Created id new) i ∙ go g i kind kept (made_then h (Created group id new) g i kind made))
       where
         was : (g i : ℕ) → IsKept (h ++ Created group id new ∷ []) g i → IsKept h g i
         was g i (inl none) = inl (none_before h (Created group id new) run may g i none)
@@ -186,7 +189,7 @@ all_live = of_each_run AllLive (λ g i kind made. absurd (none-some kind made)) 
     step h (Ran batch node) run may so_far = same h (Ran batch node) run may refl (λ g i kind makes. makes) (λ i. kind_after (journal_of h) (logged.Ran batch node) i) so_far
     step h (Retired serial) run may so_far = same h (Retired serial) run may refl (λ g i kind makes. makes) (nothing h) so_far
     step h (Fetched group id at bytes) run may so_far = same h (Fetched group id at bytes) run may refl (λ g i kind makes. makes) (λ i. kind_after (journal_of h) (logged.Fetched id at bytes) i) so_far
-    step h (Gave group id us) run may so_far = λ g i kind made kept. ap (λ j. kind_of j i) (journal_then h (Gave group id us)) ∙ (nothing h i ∙ go g i kind kept (made_before h g i (Gave group id us) kind made))
+    step h (Gave group id us) run may so_far = λ g i kind made kept. ap (λ j. kind_of j i) (journal_then h (Gave group id us)) ∙ (nothing h i ∙ go g i kind kept (made_then h (Gave group id us) g i kind made))
       where
         -- what is put to the garbage was not given before
         fresh : (g i : ℕ) (kind : Kind) → (own_part h g).kinds i ≡ Some kind → i ≡ id.0 → (own_part h g).given i ≡ None
@@ -207,7 +210,7 @@ all_live = of_each_run AllLive (λ g i kind made. absurd (none-some kind made)) 
         go g i kind kept (inl old) = so_far g i kind old (was g i kind old kept)
         go g i kind kept (inr none) = absurd none
     step h (Abandoned group id) run may so_far = same h (Abandoned group id) run may refl (λ g i kind makes. makes) (nothing h) so_far
-    step h (Cleaned read destroyed) run may so_far = λ g i kind made kept. ap (λ j. kind_of j i) (journal_then h (Cleaned read destroyed)) ∙ go g i kind kept (made_before h g i (Cleaned read destroyed) kind made)
+    step h (Cleaned read destroyed) run may so_far = λ g i kind made kept. ap (λ j. kind_of j i) (journal_then h (Cleaned read destroyed)) ∙ go g i kind kept (made_then h (Cleaned read destroyed) g i kind made)
       where
         -- an object that was not given is no garbage
         no_garbage : (g i : ℕ) (kind : Kind) → (own_part h g).kinds i ≡ Some kind → (own_part h g).given i ≡ None → IsAway i (garbage_of h)

@@ -4,7 +4,7 @@ use Rattle.std.specs.Prelude.{◌⊎◌, Some, slice_get}
 use Rattle.std.proofs.lemmas.Bool.{cases_eq, cases_lt, cases_Bool, cond-true, cond-false, eq-eqb, ne_eqb, false≢true, false_from_ne_true}
 use Rattle.std.proofs.lemmas.List.{length-append}
 use Rattle.std.proofs.lemmas.List.Sums.{fold-append}
-use Rattle.std.proofs.lemmas.Option.{none-some, slice_get_within}
+use Rattle.std.proofs.lemmas.Option.{none-some, slice_get_within, same_Some}
 use Rattle.vk_types.specs.declared.batches.Batch.{Batch}
 use Rattle.vk_device.specs.Order.{IsOfOneQueue}
 use Rattle.submit_queue.specs.Histories.{last_number, item_count, reach}
@@ -186,7 +186,7 @@ module _ (xs : List Batch) (a r : ℕ) (ran gone : ℕ → ℕ → Bool) (are : 
     where
       past : (k : ℕ) (c : Batch) → slice_get xs k ≡ Some c → (k ≡ r) ⊎ (k ≡ r → ⊥) → k < r + 1 → gone' c.index c.number ≡ true
       past k c at (inl here) less =
-          let same : c ≡ b = Rattle.std.proofs.lemmas.Option.same_Some c b (sym at ∙ (ap (slice_get xs) here ∙ is)) in
+          let same : c ≡ b = same_Some c b (sym at ∙ (ap (slice_get xs) here ∙ is)) in
           subst (λ (d : Batch). gone' d.index d.number ≡ true) (sym same) now
       past k c at (inr other) less = still c.index c.number (going.past k c at (omega (arith, less, other)))
 
@@ -200,7 +200,7 @@ module _ (xs : List Batch) (a r : ℕ) (ran gone : ℕ → ℕ → Bool) (are : 
 
       done : (k i : ℕ) (c : Batch) → slice_get xs k ≡ Some c → (k ≡ r) ⊎ (k ≡ r → ⊥) → k < r + 1 → i < item_count c → ran k i ≡ true
       done k i c at (inl here) less inside =
-          let same : c ≡ b = Rattle.std.proofs.lemmas.Option.same_Some c b (sym at ∙ (ap (slice_get xs) here ∙ is)) in
+          let same : c ≡ b = same_Some c b (sym at ∙ (ap (slice_get xs) here ∙ is)) in
           subst (λ j. ran j i ≡ true) (sym here) (executed i (subst (λ (d : Batch). i < item_count d) same inside))
       done k i c at (inr other) less inside = going.done k i c at (omega (arith, less, other)) inside
 

@@ -1,5 +1,5 @@
 -- The batches that were pushed, and those of each group among them.
-use Rattle.std.proofs.Common.{◌≡◌, ◌≢◌, ℕ, ◌≤◌, ◌==◌, Bool, true, false, cond, max, List, [], ◌∷◌, ◌++◌, refl, sym, ap, ◌∙◌, subst, inl, inr, arith}
+use Rattle.std.proofs.Common.{◌≡◌, ◌≢◌, ℕ, ◌≤◌, ◌==◌, Bool, true, false, cond, max, List, [], ◌∷◌, ◌++◌, refl, sym, ap, ◌∙◌, subst, inl, inr, arith, zero, suc}
 use Rattle.std.specs.Prelude.{◌/◌, ◌⊎◌, ◌&&◌, Some, slice_get}
 use Rattle.std.specs.List.{fold, flat_map, filter}
 use Rattle.std.proofs.lemmas.Bool.{cases_eq, cases_Bool, cond-true, cond-false, eq-eqb, ne_eqb, eqb-true, and_from, false≢true}
@@ -135,14 +135,14 @@ use_grows (b ∷ xs) n index id =
 
 use_reaches : (g : ℕ) (xs : List Batch) (k n id : ℕ) (b : Batch) → slice_get xs k ≡ Some b → is_of g b ≡ true → batch_touches b id ≡ true → b.number ≤ use_from n (filter (is_of g) xs) b.index id
 use_reaches g [] k n id b at own touches = absurd (none-some b at)
-use_reaches g (c ∷ xs) Rattle.std.proofs.Common.zero n id b at own touches =
+use_reaches g (c ∷ xs) zero n id b at own touches =
     let same : c ≡ b = same_Some c b at in
     let here : filter (is_of g) (c ∷ xs) ≡ c ∷ filter (is_of g) xs = cond-true (is_of g c) (c ∷ filter (is_of g) xs) _ (ap (is_of g) same ∙ own) in
     let test : ((c.index == b.index) && batch_touches c id) ≡ true = and_from (c.index == b.index) (batch_touches c id) (eq-eqb c.index b.index (ap (λ (x : Batch). x.index) same)) (ap (λ x. batch_touches x id) same ∙ touches) in
     let first : cond ((c.index == b.index) && batch_touches c id) (max n c.number) n ≡ max n c.number = cond-true _ (max n c.number) n test in
     let number : c.number ≡ b.number = ap (λ (x : Batch). x.number) same in
     subst (λ l. b.number ≤ use_from n l b.index id) (sym here) (omega (arith, use_grows (filter (is_of g) xs) (cond ((c.index == b.index) && batch_touches c id) (max n c.number) n) b.index id, first, number))
-use_reaches g (c ∷ xs) (Rattle.std.proofs.Common.suc k) n id b at own touches = go (cases_Bool (is_of g c)) (λ m. use_reaches g xs k m id b at own touches)
+use_reaches g (c ∷ xs) (suc k) n id b at own touches = go (cases_Bool (is_of g c)) (λ m. use_reaches g xs k m id b at own touches)
   where
     go : (is_of g c ≡ true) ⊎ (is_of g c ≡ false) → ((m : ℕ) → b.number ≤ use_from m (filter (is_of g) xs) b.index id) → b.number ≤ use_from n (cond (is_of g c) (c ∷ filter (is_of g) xs) (filter (is_of g) xs)) b.index id
     go (inl t) rest = subst (λ l. b.number ≤ use_from n l b.index id) (sym (cond-true (is_of g c) (c ∷ filter (is_of g) xs) _ t)) (rest (cond ((c.index == b.index) && batch_touches c id) (max n c.number) n))

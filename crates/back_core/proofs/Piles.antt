@@ -2,7 +2,7 @@
 use Rattle.std.proofs.Common.{◌≡◌, ◌≢◌, ℕ, zero, suc, ◌<◌, ◌≤◌, ◌==◌, Bool, true, false, cond, List, [], ◌∷◌, ◌++◌, length, take, get_or, refl, sym, ap, ◌∙◌, subst, inl, inr, arith}
 use Rattle.std.specs.Prelude.{◌⊎◌, Some, slice_get, slice_index, nat_le, Contains}
 use Rattle.std.specs.List.{filter}
-use Rattle.std.proofs.lemmas.Bool.{cases_Bool, cases_eq, cond-true, cond-false, and_parts, leb-true, eqb-true}
+use Rattle.std.proofs.lemmas.Bool.{cases_Bool, cases_eq, cond-true, cond-false, and_parts, leb-true, ne_eqb, eq-eqb}
 use Rattle.std.proofs.lemmas.Option.{same_Some, none-some}
 use Rattle.vk_types.specs.declared.batches.QueueSerial.{QueueSerial}
 use Rattle.resource_use.specs.Uses.{number_of, are_covered}
@@ -200,10 +200,10 @@ covered_number read (u ∷ uses) i covered = go (cases_eq u.index i) (covered_nu
 
     go : (u.index ≡ i) ⊎ (u.index ≡ i → ⊥) → (are_covered read uses ≡ true → number_of uses i ≤ slice_index read i) → cond (u.index == i) u.number (number_of uses i) ≤ slice_index read i
     go (inl same) rest =
-        let e : cond (u.index == i) u.number (number_of uses i) ≡ u.number = cond-true (u.index == i) u.number (number_of uses i) (Rattle.std.proofs.lemmas.Bool.eq-eqb u.index i same) in
+        let e : cond (u.index == i) u.number (number_of uses i) ≡ u.number = cond-true (u.index == i) u.number (number_of uses i) (eq-eqb u.index i same) in
         let le : u.number ≤ slice_index read u.index = leb-true u.number (slice_index read u.index) both.0 in
         let at : slice_index read u.index ≡ slice_index read i = ap (slice_index read) same in
         omega (arith, e, le, at)
     go (inr other) rest =
-        let e : cond (u.index == i) u.number (number_of uses i) ≡ number_of uses i = cond-false (u.index == i) u.number (number_of uses i) (Rattle.std.proofs.lemmas.Bool.ne_eqb u.index i other) in
+        let e : cond (u.index == i) u.number (number_of uses i) ≡ number_of uses i = cond-false (u.index == i) u.number (number_of uses i) (ne_eqb u.index i other) in
         omega (arith, e, rest both.1)

@@ -1,7 +1,7 @@
 -- Where the nodes of the accepted batches lie in a device's log, and which of them were executed.
 use Rattle.std.proofs.Common.{◌≡◌, ℕ, zero, suc, ◌+◌, ◌<◌, Bool, true, false, List, [], ◌∷◌, ◌++◌, length, map, refl, sym, ap, ◌∙◌, subst, inl, inr, arith, length-append}
 use Rattle.std.specs.Prelude.{◌⊎◌, Some, slice_get, Contains, option_map}
-use Rattle.std.proofs.lemmas.Bool.{cases_order}
+use Rattle.std.proofs.lemmas.Bool.{false≢true}
 use Rattle.std.proofs.lemmas.List.{append-nil}
 use Rattle.std.proofs.lemmas.List.Elements.{Contains-append_left, Contains-append_cases, Contains-push}
 use Rattle.std.proofs.lemmas.Option.{same_Some, none-some, slice_get_within, slice_get-map}
@@ -40,7 +40,7 @@ none_placed ran none = record {
   stands = λ k x at. absurd (none-some x (subst (λ l. slice_get l k ≡ Some x) log_of-nil at));
   lies = λ batch node b n at. absurd (none-some b (subst (λ l. slice_get l batch ≡ Some b) accepted-nil at));
   executed = λ k c. absurd (contains_none k (subst (λ o. Contains o k) order_of-nil c));
-  in_order = λ k i was. absurd (Rattle.std.proofs.lemmas.Bool.false≢true (sym (none k i) ∙ was));
+  in_order = λ k i was. absurd (false≢true (sym (none k i) ∙ was));
 }
 
 -- One more entry

@@ -7,10 +7,11 @@ use Rattle.vk_types.specs.declared.batches.Batch.{Batch}
 use Rattle.submit_queue.specs.Histories as queue
 use Rattle.back_core.specs.declared.back_event.BackEvent.{BackEvent}
 use Rattle.back_core.specs.declared.back_event.BackEvent.TheVariants.{Created, Wrote, Enqueued, Submitted, Ran, Retired, Fetched, Gave, Abandoned, Cleaned, Closing, Stopped}
-use Rattle.back_core.specs.History.{queue_history}
+use Rattle.back_core.specs.History.{queue_history, queue_event}
 use Rattle.back_core.specs.Run.{items_left, all_items_left, work_in, work_left, MayHappen, IsRun, IsProgress}
 use Rattle.back_core.proofs.Sees.{queue_then}
 use Rattle.back_core.proofs.Going.{accepted_next, retired_next, ran_next, batches_stay, ran_stays, goes, numbered, next_to_retire}
+use Rattle.vk_types.specs.declared.batches.QueueSerial.{QueueSerial}
 
 -- Items
 
@@ -73,7 +74,7 @@ module _ (q : List queue.Event) where
       let is : work_in (q ++ queue.Accepted ∷ []) ≡ work (queue.batches q) (queue.accepted (q ++ queue.Accepted ∷ [])) (queue.retired (q ++ queue.Accepted ∷ [])) (queue.has_run q) = same in
       omega (arith, is, accepted_next q queue.Accepted, retired_next q queue.Accepted, lt)
 
-  less_retired : (serial : Rattle.vk_types.specs.declared.batches.QueueSerial.QueueSerial) → queue.retired q < length (queue.batches q) → work_in (q ++ queue.Retired serial ∷ []) < work_in q
+  less_retired : (serial : QueueSerial) → queue.retired q < length (queue.batches q) → work_in (q ++ queue.Retired serial ∷ []) < work_in q
   less_retired serial lt =
       let is : work_in (q ++ queue.Retired serial ∷ []) ≡ work (queue.batches q) (queue.accepted (q ++ queue.Retired serial ∷ [])) (queue.retired (q ++ queue.Retired serial ∷ [])) (queue.has_run q)
       = work_is (queue.accepted (q ++ queue.Retired serial ∷ [])) (queue.retired (q ++ queue.Retired serial ∷ [])) (batches_stay q (queue.Retired serial) refl) (ran_stays q (queue.Retired serial) (λ k i. refl)) in
@@ -89,7 +90,7 @@ module _ (q : List queue.Event) where
       (ran_next q (queue.Ran k i) k i ∙ or_right (queue.has_run q k i) _ (and_from (k == k) (i == i) (eq-eqb k k refl) (eq-eqb i i refl))) in
       omega (arith, is, accepted_next q (queue.Ran k i), retired_next q (queue.Ran k i), less)
 
-next_work : (h : List BackEvent) (e : BackEvent) (q : queue.Event) → Rattle.back_core.specs.History.queue_event e ≡ q ∷ [] → work_in (queue_history h ++ q ∷ []) < work_left h → work_left (h ++ e ∷ []) < work_left h
+next_work : (h : List BackEvent) (e : BackEvent) (q : queue.Event) → queue_event e ≡ q ∷ [] → work_in (queue_history h ++ q ∷ []) < work_left h → work_left (h ++ e ∷ []) < work_left h
 next_work h e q is less = subst (λ l. work_in l < work_left h) (sym (queue_then h e ∙ ap (λ l. queue_history h ++ l) is)) less
 
 pub work_falls : (h : List BackEvent) (e : BackEvent) → IsRun h → MayHappen h e → IsProgress e → work_left (h ++ e ∷ []) < work_left h
