@@ -1,2 +1,4 @@
 mod Sees
 mod Uses
+mod Room
+mod Holding

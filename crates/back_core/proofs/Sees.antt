@@ -42,7 +42,7 @@ all_keep : (l : Link) (h : List BackEvent) → (fold link_after l h).group ≡ l
 all_keep l [] = refl
 all_keep l (e ∷ h) = all_keep (link_after l e) h ∙ after_keeps l e
 
-group_of : (h : List BackEvent) (g : ℕ) → (own_part h g).group ≡ g
+pub group_of : (h : List BackEvent) (g : ℕ) → (own_part h g).group ≡ g
 group_of h g = all_keep (opening g) h
 
 -- One more event
@@ -56,10 +56,10 @@ if_own_is l group new e = cond-true (group == l.group) new l (eq-eqb group l.gro
 if_own_not : (l : Link) (group : ℕ) (new : Link) → group ≢ l.group → if_own l group new ≡ l
 if_own_not l group new e = cond-false (group == l.group) new l (ne_eqb group l.group e)
 
-queue_then : (h : List BackEvent) (e : BackEvent) → queue_history (h ++ e ∷ []) ≡ queue_history h ++ queue_event e
+pub queue_then : (h : List BackEvent) (e : BackEvent) → queue_history (h ++ e ∷ []) ≡ queue_history h ++ queue_event e
 queue_then h e = flat_map-append queue_event h (e ∷ []) ∙ ap (λ l. queue_history h ++ l) (append-nil (queue_event e))
 
-queue_same : (h : List BackEvent) (e : BackEvent) → queue_event e ≡ [] → queue_history (h ++ e ∷ []) ≡ queue_history h
+pub queue_same : (h : List BackEvent) (e : BackEvent) → queue_event e ≡ [] → queue_history (h ++ e ∷ []) ≡ queue_history h
 queue_same h e none = queue_then h e ∙ (ap (λ l. queue_history h ++ l) none ∙ append-nil (queue_history h))
 
 -- an event that is none of the queue's

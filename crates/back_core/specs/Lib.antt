@@ -4,3 +4,5 @@ pub mod Needs
 pub mod Answers
 pub mod History
 pub mod Run
+pub mod Back
+pub mod Steps
