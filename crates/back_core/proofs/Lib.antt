@@ -2,3 +2,4 @@ mod Sees
 mod Uses
 mod Room
 mod Holding
+mod Calls

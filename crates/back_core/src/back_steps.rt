@@ -86,11 +86,12 @@ impl<D: Device> Back<D> {
     {
         runs_go_on();
         runs_meet_the_device();
-        let serial = self.queue.retire()?;
-        self.history
-            .push_reserved(Stored::Event(BackEvent::Retired { serial }));
+        let QueueSerial { index, number } = self.queue.retire()?;
+        self.history.push_reserved(Stored::Event(BackEvent::Retired {
+            serial: QueueSerial { index, number },
+        }));
         self.promised -= 1;
-        Some(serial)
+        Some(QueueSerial { index, number })
     }
 
     /// Retires a batch, or else has the device execute a node, or else submits a batch; `Nothing` exactly where nothing of
