@@ -3,3 +3,4 @@ mod Uses
 mod Room
 mod Holding
 mod Calls
+mod Numbers

@@ -101,6 +101,7 @@ impl<D: Device> Back<D> {
     {
         runs_go_on();
         runs_meet_the_device();
+        let _index = batch.index.get();
         let events = batch.nodes.as_slice().len() + 2;
         let copy = match batch.copy(self.alloc) {
             Ok(copy) => copy,

@@ -101,8 +101,9 @@ impl<D: Device> Back<D> {
         ensures err { IfErr result (λ stop. self.new.history ≡ stopped_by self.old.history stop) }
         ensures cause { HasCause (D.faults self.old.device) (D.faults self.new.device) result }
     {
-        if self.retire().is_some() {
-            return Ok(Step::Done);
+        match self.retire() {
+            Some(_) => return Ok(Step::Done),
+            None => {}
         }
         match self.turn()? {
             Turned::Ran { .. } => Ok(Step::Done),
