@@ -168,3 +168,20 @@ within (y ∷ ys) (suc k) x e = let l = within ys k x e in omega arith
 pub idle_then : (old mid new : List BackEvent) (step : Step) → mid ≡ old → AllRan (journal_of old) → ((place : ℕ) → queue.CanRetire (queue_history old) place → ⊥) → Submits mid new step → Proceeds old new step
 idle_then old mid new Done same ran none (is, may) = record { event = Submitted; is = is ∙ ap (λ l. l ++ Submitted ∷ []) same; may = subst (λ l. queue.MayAccept (queue_history l)) same may; progress = tt }
 idle_then old mid new Nothing same ran none (is, flushed) = (is ∙ same, record { none_flushed = subst (λ l. queue.first_flushed (queue_history l) ≡ None) same flushed; all_ran = ran; none_to_retire = none })
+
+-- a cleanup that did nothing
+pub holds_still : (h : List BackEvent) (old new : List Logged) (bytes bytes' : ℕ → List ℕ) (q : SubmitQueue) (g g' : GarbageAndRoom) (ending : Ending) (promised : ℕ) → Holds h old bytes q g ending promised → new ≡ old → IsInOrder new bytes' → g'.items ≡ g.items → g.room ≤ g'.room → Holds h new bytes' q g' ending promised
+holds_still h old new bytes bytes' q g g' ending promised holds same in_order items room = record {
+  run = holds.run;
+  logged = same ∙ holds.logged;
+  in_order = in_order;
+  kept = holds.kept;
+  waiting = items ∙ holds.waiting;
+  ends = holds.ends;
+  room = holds.room;
+  garbage_room = omega (arith, holds.garbage_room);
+}
+
+-- what is garbage is counted in the room
+pub garbage_few : (h : List BackEvent) (old : List Logged) (bytes : ℕ → List ℕ) (q : SubmitQueue) (g : GarbageAndRoom) (ending : Ending) (promised : ℕ) → Holds h old bytes q g ending promised → length g.items ≤ promised
+garbage_few h old bytes q g ending promised holds = let l : length g.items ≡ length (garbage_of h) = ap length holds.waiting in omega (arith, holds.room)

@@ -4,3 +4,4 @@ mod Room
 mod Holding
 mod Calls
 mod Numbers
+mod Covered

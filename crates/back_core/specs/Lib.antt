@@ -6,3 +6,4 @@ pub mod History
 pub mod Run
 pub mod Back
 pub mod Steps
+pub mod Cleaning

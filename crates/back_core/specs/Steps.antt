@@ -1,5 +1,5 @@
 -- What the calls of a back leave of its history.
-use Rattle.std.specs.Prelude.{◌≡◌, ℕ, ◌<◌, ◌/◌, ◌==◌, List, [], ◌∷◌, ◌++◌, length, take, All, Some, None, false, Contains, if◌then◌else◌}
+use Rattle.std.specs.Prelude.{◌≡◌, ℕ, ◌+◌, ◌&&◌, is_none, Option, ◌<◌, ◌/◌, ◌==◌, List, [], ◌∷◌, ◌++◌, length, take, All, Some, None, false, Contains, if◌then◌else◌}
 use Rattle.vk_types.specs.declared.stops.Stop.{Stop}
 use Rattle.vk_types.specs.declared.batches.Batch.{Batch}
 use Rattle.vk_types.specs.declared.batches.QueueSerial.{QueueSerial}
@@ -17,7 +17,7 @@ use Rattle.back_core.specs.declared.ending.Step.TheVariants.{Done, Nothing}
 use Rattle.back_core.specs.Own as own
 use Rattle.back_core.specs.Needs.{MayEnqueue}
 use Rattle.back_core.specs.History.{queue_history, link_of}
-use Rattle.back_core.specs.Run.{garbage_of, journal_of, destroys, covered_in, MayRetire, MayHappen, IsRun, IsLeftAlone, IsProgress}
+use Rattle.back_core.specs.Run.{garbage_of, without_covered, journal_of, destroys, covered_in, MayRetire, MayHappen, IsRun, IsLeftAlone, IsProgress}
 use Rattle.back_core.specs.Back.{BackModel, stopped_by}
 
 -- the first flushed batch was submitted, or none stands
@@ -62,6 +62,15 @@ pub record HasStopped (old new : List BackEvent) (stop : Stop) : Type 0 where
   pub before : List BackEvent
   pub gone_on : HasGoneOn old before
   pub is : new ≡ stopped_by before stop
+
+-- What a cleanup did: it destroyed so many of the covered objects, all of them or those before the one at which it was
+-- stopped. One that did nothing is not told.
+pub record CleansBy {D : Type 0} (journal : D → List Logged) (old new : BackModel D) (read : List ℕ) (count : ℕ) (stop : Option Stop) : Type 0 where
+  pub destroyed : journal new.device ≡ journal old.device ++ destroys (take count (covered_in old.history read))
+  pub left : garbage_of new.history ≡ without_covered read (count + 1) (garbage_of old.history)
+  pub all : stop ≡ None → count ≡ length (covered_in old.history read)
+  pub some : (s : Stop) → stop ≡ Some s → count < length (covered_in old.history read)
+  pub history : new.history ≡ (if (count == 0) && is_none stop then old.history else old.history ++ event.Cleaned read count ∷ [])
 
 -- the history after a cleanup that destroyed so many; one that destroyed nothing is not told
 abbrev pub cleaned : List BackEvent → List ℕ → ℕ → List BackEvent

@@ -7,9 +7,11 @@
 
 mod back;
 mod back_calls;
+mod back_clean;
 mod back_event;
 mod back_link;
 mod back_steps;
+mod cleaning;
 mod ending;
 mod laws;
 mod run_laws;
