@@ -5,3 +5,4 @@ mod Holding
 mod Calls
 mod Numbers
 mod Covered
+mod Cleans
