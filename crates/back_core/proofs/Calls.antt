@@ -164,11 +164,6 @@ within [] k x e = absurd (cc e)
 within (y ∷ ys) zero x e = omega arith
 within (y ∷ ys) (suc k) x e = let l = within ys k x e in omega arith
 
--- nothing was to retire and nothing to run, and then a batch was submitted, or none stood
-pub idle_then : (old mid new : List BackEvent) (step : Step) → mid ≡ old → AllRan (journal_of old) → ((place : ℕ) → queue.CanRetire (queue_history old) place → ⊥) → Submits mid new step → Proceeds old new step
-idle_then old mid new Done same ran none (is, may) = record { event = Submitted; is = is ∙ ap (λ l. l ++ Submitted ∷ []) same; may = subst (λ l. queue.MayAccept (queue_history l)) same may; progress = tt }
-idle_then old mid new Nothing same ran none (is, flushed) = (is ∙ same, record { none_flushed = subst (λ l. queue.first_flushed (queue_history l) ≡ None) same flushed; all_ran = ran; none_to_retire = none })
-
 -- a cleanup that did nothing
 pub holds_still : (h : List BackEvent) (old new : List Logged) (bytes bytes' : ℕ → List ℕ) (q : SubmitQueue) (g g' : GarbageAndRoom) (ending : Ending) (promised : ℕ) → Holds h old bytes q g ending promised → new ≡ old → IsInOrder new bytes' → g'.items ≡ g.items → g.room ≤ g'.room → Holds h new bytes' q g' ending promised
 holds_still h old new bytes bytes' q g g' ending promised holds same in_order items room = record {

@@ -6,3 +6,4 @@ mod Calls
 mod Numbers
 mod Covered
 mod Cleans
+mod Waiting

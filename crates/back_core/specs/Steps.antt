@@ -1,5 +1,5 @@
 -- What the calls of a back leave of its history.
-use Rattle.std.specs.Prelude.{◌≡◌, ℕ, ◌+◌, ◌&&◌, is_none, Option, ◌<◌, ◌/◌, ◌==◌, List, [], ◌∷◌, ◌++◌, length, take, All, Some, None, false, Contains, if◌then◌else◌}
+use Rattle.std.specs.Prelude.{◌≡◌, ℕ, ◌+◌, ◌&&◌, is_none, Option, ◌<◌, ◌≤◌, ◌/◌, ◌==◌, List, [], ◌∷◌, ◌++◌, length, take, All, Some, None, false, Contains, if◌then◌else◌}
 use Rattle.vk_types.specs.declared.stops.Stop.{Stop}
 use Rattle.vk_types.specs.declared.batches.Batch.{Batch}
 use Rattle.vk_types.specs.declared.batches.QueueSerial.{QueueSerial}
@@ -15,9 +15,9 @@ use Rattle.back_core.specs.declared.back_event.BackEvent.TheVariants as event
 use Rattle.back_core.specs.declared.ending.Step.{Step}
 use Rattle.back_core.specs.declared.ending.Step.TheVariants.{Done, Nothing}
 use Rattle.back_core.specs.Own as own
-use Rattle.back_core.specs.Needs.{MayEnqueue}
-use Rattle.back_core.specs.History.{queue_history, link_of}
-use Rattle.back_core.specs.Run.{garbage_of, without_covered, journal_of, destroys, covered_in, MayRetire, MayHappen, IsRun, IsLeftAlone, IsProgress}
+use Rattle.back_core.specs.Needs.{MayEnqueue, HasBatch}
+use Rattle.back_core.specs.History.{queue_history, completed, link_of}
+use Rattle.back_core.specs.Run.{garbage_of, without_covered, journal_of, destroys, covered_in, MayRetire, MayHappen, IsRun, IsLeftAlone, IsProgress, work_left}
 use Rattle.back_core.specs.Back.{BackModel, stopped_by}
 
 -- the first flushed batch was submitted, or none stands
@@ -34,18 +34,20 @@ Turns old new Idle = (new ≡ old) × AllRan (journal_of old)
 abbrev pub RetiresOne : List BackEvent → List BackEvent → QueueSerial → Type 0
 RetiresOne old new serial = (new ≡ old ++ event.Retired serial ∷ []) × MayRetire old serial
 
--- no batch is flushed, no item is to run, and no batch can be retired
+-- No batch is flushed, no item is to run, and no batch can be retired. So each batch of a group is retired.
 pub record IsIdle (history : List BackEvent) : Type 0 where
+  pub all_retired : (g index number : ℕ) → HasBatch (link_of history g) index number → number ≤ completed history index
   pub none_flushed : queue.first_flushed (queue_history history) ≡ None
   pub all_ran : AllRan (journal_of history)
   pub none_to_retire : (place : ℕ) → queue.CanRetire (queue_history history) place → ⊥
 
--- one more event by which the batches went on
+-- one more event by which the batches went on, so that less is left to do
 pub record MakesOne (old new : List BackEvent) : Type 0 where
   pub event : BackEvent
   pub is : new ≡ old ++ event ∷ []
   pub may : MayHappen old event
   pub progress : IsProgress event
+  pub less : work_left new < work_left old
 
 abbrev pub Proceeds : List BackEvent → List BackEvent → Step → Type 0
 Proceeds old new Done = MakesOne old new

@@ -1,15 +1,17 @@
 // How the batches go on: they are submitted, run and retired.
-ghost use Rattle.std.specs.Prelude.{◌≡◌, ◌≢◌, ℕ, Err, IfOk, IfErr, IfNone, IfSome, OnErr};
+ghost use Rattle.std.specs.Prelude.{◌≡◌, ◌≢◌, ◌≤◌, ℕ, Err, IfOk, IfErr, IfNone, IfSome, OnOk, OnErr};
 ghost use Rattle.vk_types.specs.declared.stops.Stop.TheVariants.{Memory};
 ghost use Rattle.vk_device.specs.Faults.{HasCause};
 ghost use Rattle.submit_queue.specs.Histories.{CanRetire};
-ghost use Rattle.back_core.specs.History.{queue_history};
+ghost use Rattle.back_core.specs.Needs.{HasBatch};
+ghost use Rattle.back_core.specs.Answers.{Learns};
+ghost use Rattle.back_core.specs.History.{queue_history, completed, link_of};
 ghost use Rattle.back_core.specs.Back.{stopped_by};
-ghost use Rattle.back_core.specs.Steps.{Submits, Turns, RetiresOne, Proceeds};
+ghost use Rattle.back_core.specs.Steps.{Submits, Turns, RetiresOne, Proceeds, HasGoneOn, HasStopped};
 
 use crate::run_laws::{runs_are_sound, runs_go_on, runs_meet_the_device};
 use crate::stored::Stored;
-use crate::{Back, BackEvent, Step};
+use crate::{Back, BackEvent, Step, what_a_group_sees};
 use vk_device::{Device, Turned, devices_stay_in_order};
 use vk_types::{QueueSerial, Stop};
 
@@ -101,6 +103,8 @@ impl<D: Device> Back<D> {
         ensures err { IfErr result (λ stop. self.new.history ≡ stopped_by self.old.history stop) }
         ensures cause { HasCause (D.faults self.old.device) (D.faults self.new.device) result }
     {
+        runs_meet_the_device();
+        let _ = &self.alloc;
         match self.retire() {
             Some(_) => return Ok(Step::Done),
             None => {}
@@ -109,5 +113,24 @@ impl<D: Device> Back<D> {
             Turned::Ran { .. } => Ok(Step::Done),
             Turned::Idle => self.submit_one(),
         }
+    }
+
+    /// Goes on until the batch with this serial is retired.
+    pub fn wait_for(&mut self, group: u8, serial: QueueSerial) -> Result<(), Stop>
+        requires { HasBatch (link_of self.old.history group) serial.index serial.number }
+        ensures ok { OnOk result (HasGoneOn self.old.history self.new.history) }
+        ensures reached { OnOk result (serial.number ≤ completed self.new.history serial.index) }
+        ensures err { IfErr result (λ stop. HasStopped self.old.history self.new.history stop) }
+        ensures learns { Learns (link_of self.old.history group) (link_of self.new.history group) }
+        ensures cause { HasCause (D.faults self.old.device) (D.faults self.new.device) result }
+    {
+        what_a_group_sees();
+        while self.completed(serial.index) < serial.number {
+            match self.go_on()? {
+                Step::Done => {}
+                Step::Nothing => return Ok(()),
+            }
+        }
+        Ok(())
     }
 }

@@ -43,7 +43,6 @@ pub(crate) fn destroy_covered<D: Device>(
     ensures lost { result.stop ≡ Some Lost → Rose (D.faults device.old) (D.faults device.new) }
 {
     devices_stay_in_order::<D>();
-    crate::run_laws::runs_go_on();
     let mut count = 0;
     let mut from = 0;
     while let Some((place, item)) = garbage.take_covered(from, read) {
