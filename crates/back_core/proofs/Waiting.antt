@@ -1,6 +1,6 @@
 -- What is learned while a batch is waited for.
 use Rattle.std.proofs.Common.{◌≡◌, ℕ, ◌<◌, ◌≤◌, Bool, true, false, cond, List, [], ◌∷◌, ◌++◌, length, refl, sym, ap, ◌∙◌, subst, arith}
-use Rattle.std.specs.Prelude.{All, Option, Some, None}
+use Rattle.std.specs.Prelude.{All, Option, Some, None, ◌/◌}
 use Rattle.std.proofs.lemmas.List.{append-nil, append_assoc}
 use Rattle.std.proofs.lemmas.List.Elements.{All-push}
 use Rattle.vk_types.specs.declared.stops.Stop.{Stop}
@@ -15,7 +15,7 @@ use Rattle.back_core.specs.declared.ending.Step.{Step}
 use Rattle.back_core.specs.declared.ending.Step.TheVariants.{Done, Nothing}
 use Rattle.back_core.specs.Own.{batches_of}
 use Rattle.back_core.specs.Link.{Link, Asked}
-use Rattle.back_core.specs.Needs.{HasBatch}
+use Rattle.back_core.specs.Needs.{HasBatch, IsOfGroup}
 use Rattle.back_core.specs.Answers.{NowRises, AskedRises, Learns}
 use Rattle.back_core.specs.History.{queue_history, completed, link_of, IsOfOthers}
 use Rattle.back_core.specs.Run.{journal_of, IsRun, IsProgress, MayHappen, work_left}
@@ -127,3 +127,11 @@ by_submit less done old mid new Done run same ran none (is, may) = makes_one les
 by_submit less done old mid new Nothing run same ran none (is, flushed) =
     let flushed' : queue.first_flushed (queue_history old) ≡ None = subst (λ l. queue.first_flushed (queue_history l) ≡ None) same flushed in
     (is ∙ same, record { all_retired = λ g index number has. done old g index number run flushed' ran none has; none_flushed = flushed'; all_ran = ran; none_to_retire = none })
+
+-- the group of an index
+pub group_is : (index group : ℕ) → IsOfGroup group index → index / 8 ≡ group
+group_is index group (low, high) = omega arith
+
+pub done_one : (old new : List BackEvent) (step : Step) → (step ≡ Nothing → ⊥) → Proceeds old new step → MakesOne old new
+done_one old new Done not p = p
+done_one old new Nothing not p = absurd (not refl)

@@ -125,11 +125,12 @@ impl<D: Device> Back<D> {
         ensures cause { HasCause (D.faults self.old.device) (D.faults self.new.device) result }
     {
         what_a_group_sees();
-        while self.completed(serial.index) < serial.number {
-            match self.go_on()? {
-                Step::Done => {}
-                Step::Nothing => return Ok(()),
+        let mut reached = self.completed(serial.index);
+        while reached < serial.number {
+            if let Step::Nothing = self.go_on()? {
+                return Ok(());
             }
+            reached = self.completed(serial.index);
         }
         Ok(())
     }
