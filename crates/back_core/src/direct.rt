@@ -8,6 +8,7 @@ use vk_device::Device;
 use vk_types::{Batch, Handle, HandleId, Kind, QueueSerial, SerialIndex, Stop};
 
 /// The link of a group to a back that it reaches directly. The group knows the completed numbers.
+#[derive(Drop)]
 pub struct Direct<'a, D: Device> {
     back: &'a mut Back<D>,
     group: u8,

@@ -1,0 +1,7 @@
+//! A share group's back over devices in memory, as tests.
+#![tactic(auto)]
+
+#[cfg(test)]
+mod copying;
+#[cfg(test)]
+mod tests;
