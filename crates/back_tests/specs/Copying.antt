@@ -28,3 +28,12 @@ hand_over dst = record { op = op.Barrier (record { id = dst; first = transfer_wr
 
 abbrev pub copy_nodes : HandleId → HandleId → List Node
 copy_nodes src dst = copy src dst ∷ hand_over dst ∷ []
+
+-- three objects, which the first group holds and has not used
+pub record HasThree (s : Link) (first second third : ℕ) : Type 0 where
+  pub of_group : s.group ≡ 0
+  pub unused : s.mine ≡ []
+  pub apart : (first ≢ second) × (first ≢ third) × (second ≢ third)
+  pub first_held : s.held first ≡ true
+  pub second_held : s.held second ≡ true
+  pub third_held : s.held third ≡ true

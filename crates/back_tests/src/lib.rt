@@ -4,4 +4,6 @@
 #[cfg(test)]
 mod copying;
 #[cfg(test)]
+mod queueing;
+#[cfg(test)]
 mod tests;
