@@ -6,4 +6,6 @@ mod copying;
 #[cfg(test)]
 mod queueing;
 #[cfg(test)]
+mod runs;
+#[cfg(test)]
 mod tests;
