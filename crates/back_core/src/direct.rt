@@ -1,6 +1,10 @@
 // A group's link to a back that it reaches directly.
-ghost use Rattle.std.specs.Prelude.{◌≡◌, ◌<◌};
+ghost use Rattle.std.specs.Prelude.{◌≡◌, ◌<◌, IfErr, OnOk, OnErr};
+ghost use Rattle.vk_device.specs.Faults.{HasCause};
+ghost use Rattle.back_core.specs.Needs.{HasBatch};
+ghost use Rattle.back_core.specs.Answers.{Learns, Waits};
 ghost use Rattle.back_core.specs.History.{link_of};
+ghost use Rattle.back_core.specs.Steps.{HasGoneOn, HasStopped};
 
 use crate::{Back, BackLink, what_a_group_sees};
 use garbage::Garbage;
@@ -52,7 +56,15 @@ impl<'a, D: Device> BackLink for Direct<'a, D> {
         self.back.completed(index)
     }
 
-    fn wait_for(&mut self, serial: QueueSerial) -> Result<(), Stop> {
+    /// Waits until a batch of the group is retired. The batches of the back go on meanwhile, and nothing else happens to it.
+    fn wait_for(&mut self, serial: QueueSerial) -> Result<(), Stop>
+        requires { HasBatch (link_of self.old.back.now.history self.old.group) serial.index serial.number }
+        ensures gone_on { OnOk result (HasGoneOn self.old.back.now.history self.new.back.now.history) }
+        ensures stopped { IfErr result (λ stop. HasStopped self.old.back.now.history self.new.back.now.history stop) }
+        ensures ok { OnOk result (Waits (link_of self.old.back.now.history self.old.group) (link_of self.new.back.now.history self.new.group) serial.index serial.number) }
+        ensures err { OnErr result (Learns (link_of self.old.back.now.history self.old.group) (link_of self.new.back.now.history self.new.group)) }
+        ensures cause { HasCause (D.faults self.old.back.now.device) (D.faults self.new.back.now.device) result }
+    {
         self.back.wait_for(self.group, serial)
     }
 
