@@ -1,5 +1,5 @@
 mod Sees
-mod Covered
+mod CleanedUp
 mod Uses
 mod Runs
 mod Lists
@@ -30,3 +30,10 @@ mod Given
 mod Lives
 mod Fits
 mod Meets
+mod Room
+mod Holding
+mod Calls
+mod Numbers
+mod Covered
+mod Cleans
+mod Waiting

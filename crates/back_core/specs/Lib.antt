@@ -4,3 +4,6 @@ pub mod Needs
 pub mod Answers
 pub mod History
 pub mod Run
+pub mod Back
+pub mod Steps
+pub mod Cleaning

@@ -79,6 +79,18 @@ impl GarbageList {
         next_covered(&mut self.turning, read)
     }
 
+    /// Takes out the first entry; `None` exactly where there is none. This takes no memory.
+    pub fn take_first(&mut self) -> Option<Garbage>
+        ensures some { IfSome result (λ item. self.old.items ≡ item ∷ self.new.items) }
+        ensures none { IfNone result (self.old.items ≡ []) }
+        ensures unchanged { IfNone result (self.new.items ≡ self.old.items) }
+    {
+        match self.turning.passed.pop_front() {
+            Some(item) => Some(item),
+            None => self.turning.coming.pop_front(),
+        }
+    }
+
     /// Whether no entry is left.
     pub fn is_empty(&self) -> bool
         ensures { result ≡ (length self.now.items == 0) }

@@ -1,4 +1,4 @@
-use Rattle.back_core.proofs.Covered.{without_covered-collect}
+use Rattle.back_core.proofs.CleanedUp.{without_covered-collect}
 use Rattle.back_core.proofs.Runs.{run_nil, run_then, journal_nil, journal_then, garbage_nil, garbage_then}
 use Rattle.back_core.proofs.Sees.{queue_then}
 use Rattle.back_core.proofs.run_laws.runs_go_on.Goals as goal
