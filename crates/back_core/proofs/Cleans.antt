@@ -12,7 +12,7 @@ use Rattle.back_core.specs.Run.{without_covered, destroys, covered_in, garbage_o
 use Rattle.back_core.specs.Back.{BackModel, stopped_by}
 use Rattle.back_core.specs.Steps.{CleansBy, CleansUp, CleansSome}
 use Rattle.back_core.specs.Cleaning.{covered_of, Destroys}
-use Rattle.back_core.proofs.Covered.{without_same, without_shorter, empty, take_whole}
+use Rattle.back_core.proofs.TakenOut.{without_same, without_shorter, empty, take_whole}
 
 none_is : (stop : Option Stop) → is_none stop ≡ true → stop ≡ None
 none_is None e = refl

@@ -34,6 +34,6 @@ mod Room
 mod Holding
 mod Calls
 mod Numbers
-mod Covered
+mod TakenOut
 mod Cleans
 mod Waiting

@@ -1,6 +1,6 @@
 -- What the tests need of a link.
 use Rattle.std.proofs.Common.{◌≡◌, ◌≢◌, ℕ, zero, suc, ◌<◌, ◌==◌, Bool, true, false, cond, List, [], ◌∷◌, ◌++◌, length, refl, sym, ap, ◌∙◌, subst, inl, inr, arith}
-use Rattle.std.specs.Prelude.{◌&&◌, ◌||◌, Option, Some, None, IfSome, All, slice_get}
+use Rattle.std.specs.Prelude.{◌&&◌, ◌||◌, Option, Some, None, IfSome, All, slice_get, slice_index, replicate}
 use Rattle.std.specs.List.{list_any}
 use Rattle.std.proofs.lemmas.Bool.{cases_eq, cond-true, cond-false, eq-eqb, eqb-true, ne_eqb}
 use Rattle.vk_types.specs.declared.handles.HandleId.{HandleId}
@@ -202,3 +202,10 @@ copy_readable s s1 s2 s3 src dst bytes b size index number has e1 e2 waited node
     handed_over : (n : Node) → hand_over dst ≡ n → Rattle.vk_types.specs.Touches.barrier_of n ≡ None → ⊥
     handed_over n e none = cc (ap Rattle.vk_types.specs.Touches.barrier_of e ∙ none)
   readable src dst bytes size (suc (suc (suc k))) q n at none w = absurd (cc at)
+
+-- a list of zeros
+pub zeros : (n index : ℕ) → slice_index (replicate n 0) index ≡ 0
+zeros zero zero = refl
+zeros zero (suc index) = refl
+zeros (suc n) zero = refl
+zeros (suc n) (suc index) = zeros n index

@@ -1,5 +1,5 @@
 // Whole runs of a back, from a new device to the device that it gives back.
-ghost use Rattle.std.specs.Prelude.{◌≡◌, [], length};
+ghost use Rattle.std.specs.Prelude.{◌≡◌, ℕ, [], length, slice_index};
 
 use crate::copying::copy_between;
 use crate::queueing::{enqueue_three, give_three};
@@ -88,6 +88,13 @@ pub(crate) struct Cleaned<D> {
     pub(crate) device: D,
 }
 
+// No batch was read to be retired.
+fn nothing_read() -> [u64; 64]
+    ensures { (index : ℕ) → slice_index result index ≡ 0 }
+{
+    [0; 64]
+}
+
 /// Gives three objects away, and cleans up twice.
 pub(crate) fn clean<D: Device>(alloc: Global, device: D) -> Result<Cleaned<D>, D>
     requires { D.journal device ≡ [] }
@@ -98,7 +105,7 @@ pub(crate) fn clean<D: Device>(alloc: Global, device: D) -> Result<Cleaned<D>, D
     };
     let mut link = Direct::new(&mut back, 0);
     let gave = give_three(alloc, &mut link);
-    let read = [0; 64];
+    let read = nothing_read();
     let counts = [back.cleanup(&read), back.cleanup(&read)];
     let left = back.left();
     Ok(Cleaned {

@@ -1,7 +1,7 @@
 use Rattle.std.proofs.Common.{arith, length, Some, sym, subst}
 use Rattle.garbage.specs.Collecting.{TakesOut}
 use Rattle.back_core.specs.Cleaning.{covered_of, Destroys}
-use Rattle.back_core.proofs.Covered.{cleaning_head, cleaning_next, cleaning_stops, cleaning_ends, cleaning_live, cleaning_settled, inside_drop, length-covered}
+use Rattle.back_core.proofs.TakenOut.{cleaning_head, cleaning_next, cleaning_stops, cleaning_ends, cleaning_live, cleaning_settled, inside_drop, length-covered}
 use Rattle.back_core.proofs.cleaning.destroy_covered.Goals as goal
 
 pub destroy-requires-clause-live : goal.destroy-requires-clause-live

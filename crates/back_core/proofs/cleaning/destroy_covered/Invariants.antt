@@ -1,6 +1,6 @@
 use Rattle.std.proofs.Common.{◌≤◌, length}
 use Rattle.vk_device.specs.Running.{IsInOrder}
-use Rattle.back_core.proofs.Covered.{Cleaning}
+use Rattle.back_core.proofs.TakenOut.{Cleaning}
 use Rattle.back_core.proofs.cleaning.destroy_covered.Given as goal
 
 abbrev pub invariant-loop-place : goal.invariant-loop-place

@@ -21,7 +21,7 @@ use Rattle.back_core.specs.Steps.{CleansBy, IsForgotten}
 use Rattle.back_core.specs.Cleaning.{Destroys, CanDestroy}
 use Rattle.std.proofs.lemmas.Bool.{cond-true, cond-false}
 use Rattle.back_core.proofs.Calls.{holds_still, holds_cleaned, cleaned_room}
-use Rattle.back_core.proofs.Covered.{can_destroy, place_in}
+use Rattle.back_core.proofs.TakenOut.{can_destroy, place_in}
 use Rattle.back_core.proofs.Cleans.{count_few, nothing_done, fewer_left, cleans_by, cleans_up, cleans_some}
 use Rattle.back_core.proofs.back.Back.clean.Goals as goal
 
