@@ -47,13 +47,13 @@ group_of h g = all_keep (opening g) h
 
 -- One more event
 
-part_then : (h : List BackEvent) (g : ℕ) (e : BackEvent) → own_part (h ++ e ∷ []) g ≡ link_after (own_part h g) e
+pub part_then : (h : List BackEvent) (g : ℕ) (e : BackEvent) → own_part (h ++ e ∷ []) g ≡ link_after (own_part h g) e
 part_then h g e = fold-append link_after (opening g) h (e ∷ [])
 
-if_own_is : (l : Link) (group : ℕ) (new : Link) → group ≡ l.group → if_own l group new ≡ new
+pub if_own_is : (l : Link) (group : ℕ) (new : Link) → group ≡ l.group → if_own l group new ≡ new
 if_own_is l group new e = cond-true (group == l.group) new l (eq-eqb group l.group e)
 
-if_own_not : (l : Link) (group : ℕ) (new : Link) → group ≢ l.group → if_own l group new ≡ l
+pub if_own_not : (l : Link) (group : ℕ) (new : Link) → group ≢ l.group → if_own l group new ≡ l
 if_own_not l group new e = cond-false (group == l.group) new l (ne_eqb group l.group e)
 
 pub queue_then : (h : List BackEvent) (e : BackEvent) → queue_history (h ++ e ∷ []) ≡ queue_history h ++ queue_event e
@@ -63,7 +63,7 @@ pub queue_same : (h : List BackEvent) (e : BackEvent) → queue_event e ≡ [] �
 queue_same h e none = queue_then h e ∙ (ap (λ l. queue_history h ++ l) none ∙ append-nil (queue_history h))
 
 -- an event that is none of the queue's
-completed_same : (h : List BackEvent) (e : BackEvent) → queue_event e ≡ [] → completed (h ++ e ∷ []) ≡ completed h
+pub completed_same : (h : List BackEvent) (e : BackEvent) → queue_event e ≡ [] → completed (h ++ e ∷ []) ≡ completed h
 completed_same h e none = fun_ext (λ i. ap (λ q. queue.completed q i) (queue_same h e none))
 
 -- the record of a part of the history, with the completed numbers

@@ -10,7 +10,7 @@ use Rattle.vk_types.specs.declared.batches.Batch.{Batch}
 use Rattle.submit_queue.specs.Histories.{last_number}
 use Rattle.back_core.specs.Own.{Own, Enqueued, batch_by, batches_of, batch_touches, last_use, next_number}
 
-batches_then : (mine : List Own) (x : Own) → batches_of (mine ++ x ∷ []) ≡ batches_of mine ++ batch_by x
+pub batches_then : (mine : List Own) (x : Own) → batches_of (mine ++ x ∷ []) ≡ batches_of mine ++ batch_by x
 batches_then mine x = flat_map-append batch_by mine (x ∷ []) ∙ ap (λ l. batches_of mine ++ l) (append-nil (batch_by x))
 
 -- the last use among some batches

@@ -41,7 +41,9 @@ pub fn runs_are_sound()
     ensures agrees { (h : List BackEvent) (bytes_of : ℕ → List ℕ) (g id at size : ℕ) → IsRun h → IsInOrder (journal_of h) bytes_of →
         HostMay (link_of h g) id at size →
         Agrees (part (bytes_of id) at size) (cells size (λ i. contents_of (link_of h g) id (at + i))) }
-{}
+{
+    runs_meet_the_device();
+}
 
 /// What the calls on the device need holds, and so does what the submission queue needs.
 pub fn runs_meet_the_device()

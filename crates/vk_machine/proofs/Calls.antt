@@ -155,7 +155,7 @@ keeps_nothing journal objects waiting is none empty =
       fresh = λ id past. Rattle.vk_device.proofs.Laws.creates_of-nil id;
       made_is = sym Rattle.vk_device.proofs.Laws.creates-nil;
       few = omega arith;
-      batches_is = sym (ap length Rattle.vk_machine.proofs.Places.accepted-nil);
+      batches_is = sym (ap length Rattle.vk_device.proofs.Starts.accepted-nil);
       few_batches = omega arith;
       left = record {
         each = λ k w at. let no : ◌≡◌ {A = Option WaitingNode} None (Some w) = at in absurd (cc);

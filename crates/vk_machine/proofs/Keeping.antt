@@ -31,7 +31,7 @@ use Rattle.vk_device.proofs.Fitting.{fits_lives, touched_lives}
 use Rattle.vk_device.proofs.Running.{in_order_created, in_order_fetched, in_order_destroyed}
 use Rattle.vk_device.proofs.Steps.{in_order_wrote, in_order_submitted, in_order_ran}
 use Rattle.vk_machine.specs.Machine.{place_in, IsLeft, LiesAt, AreLeft, Keeps, waiting_from}
-use Rattle.vk_machine.proofs.Places.{accepted-push}
+use Rattle.vk_device.proofs.Starts.{accepted-push}
 use Rattle.vk_machine.proofs.Left.{left_quiet, left_wrote}
 use Rattle.vk_machine.proofs.Turns.{left_submitted, left_ran}
 use Rattle.vk_machine.proofs.Fits.{fits_same, live_kind}

@@ -19,7 +19,7 @@ use Rattle.vk_device.specs.Journal.{accepts, accepted, node_at, kind_of}
 use Rattle.vk_device.specs.Order.{entry_items, log_of, order_of, executes}
 use Rattle.vk_device.proofs.Orders.{log_of-push, order_of-push}
 use Rattle.vk_machine.specs.Machine.{place_in, IsLeft, LiesAt, AreLeft}
-use Rattle.vk_machine.proofs.Places.{accepted-push, start_stays}
+use Rattle.vk_device.proofs.Starts.{accepted-push, start_stays}
 
 -- an accepted node is one of an accepted batch
 node_in : (batches : List Batch) (batch node : ℕ) (n : Node) → node_at batches batch node ≡ Some n → batch < length batches

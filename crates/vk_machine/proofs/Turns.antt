@@ -19,7 +19,7 @@ use Rattle.vk_device.specs.Journal.{accepted, node_at, kind_of}
 use Rattle.vk_device.specs.Order.{entry_items, log_of, order_of, batch_start, IsOfOneQueue}
 use Rattle.vk_device.proofs.Orders.{log_of-push, order_of-push, contains_last}
 use Rattle.vk_machine.specs.Machine.{place_in, IsLeft, LiesAt, AreLeft, waiting_from}
-use Rattle.vk_machine.proofs.Places.{accepted-push, start_next}
+use Rattle.vk_device.proofs.Starts.{accepted-push, start_next}
 use Rattle.vk_machine.proofs.Left.{left_stays, still_rising, old_place, place_stays}
 
 -- Lists

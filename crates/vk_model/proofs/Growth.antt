@@ -8,7 +8,7 @@ use Rattle.vk_types.specs.declared.regions.Barrier.{Barrier}
 use Rattle.vk_types.specs.declared.ops.Node.{Node}
 use Rattle.vk_types.specs.Touches.{barrier_of}
 use Rattle.vk_model.specs.Log.{Item, Command, touches_object, HasEdge, Reaches, direct, further, ReachesNext, FindsLayouts, IsSound, is_barrier_of, is_guarded, NamesAll, IsFenced, Conflicts}
-use Rattle.vk_model.proofs.Device.{get_front, get_next}
+use Rattle.vk_model.proofs.Device.{get_front, get_next, reaches_front}
 use Rattle.vk_model.proofs.Fences.{guarded_from-append}
 
 -- Places of a longer log
@@ -96,6 +96,17 @@ sound_next log x sound reached finds = record {
     laid_out : (k q : ℕ) (n : Node) → ((k < length log) × (slice_get log k ≡ Some (Command q n))) ⊎ Last log x (Command q n) k → FindsLayouts (take k (log ++ x ∷ [])) n
     laid_out k q n (inl here) = subst (λ l. FindsLayouts l n) (sym (take_front log x k here.0)) (sound.laid_out k q n here.1)
     laid_out k q n (inr last) = subst (λ l. FindsLayouts l n) (sym (take_whole log x k last.place)) (finds q n (sym last.same))
+
+-- a beginning of a sound log
+pub sound_front : (log more : List Item) → IsSound (log ++ more) → IsSound log
+sound_front log more sound = record {
+  ordered = λ j k p q a b lt at_j at_k e.
+      let below : k < length log = slice_get_within log k (Command q b) at_k in
+      reaches_front log more below (sound.ordered j k p q a b lt (get_front log more j (omega (arith, lt, below)) ∙ at_j) (get_front log more k below ∙ at_k) e);
+  laid_out = λ k q n at.
+      let below : k < length log = slice_get_within log k (Command q n) at in
+      subst (λ l. FindsLayouts l n) (take-append-le k log more (omega (arith, below))) (sound.laid_out k q n (get_front log more k below ∙ at));
+}
 
 -- Fenced logs
 

@@ -1,16 +1,17 @@
--- Soundness is kept where neighbouring nodes without a conflict change places.
+-- Soundness is kept where neighbouring items that do not depend on one another change places.
 use Rattle.std.proofs.Common.{◌≡◌, ℕ, zero, suc, ◌<◌, List, [], ◌∷◌, ◌++◌, get_or, take, true, false, eqb, refl, sym, ◌∙◌, ap, subst, arith, inl, inr}
 use Rattle.std.specs.Prelude.{◌⊎◌, Option, Some, None, slice_get, IfSome}
-use Rattle.std.proofs.lemmas.Bool.{both_ways, cases_Bool, ne_eqb, eq-eqb, and_parts, cond-false}
+use Rattle.std.specs.List.{list_any}
+use Rattle.std.proofs.lemmas.Bool.{both_ways, cases_Bool, ne_eqb, eq-eqb, and_parts, or_cases, cond-false, false≢true, false_from_ne_true}
 use Rattle.std.proofs.lemmas.Option.{IfSome_then, same_Some}
 use Rattle.std.proofs.lemmas.List.Folds.{list_any_at}
 use Rattle.vk_types.specs.declared.accesses.Layout.{Layout}
 use Rattle.vk_types.specs.declared.accesses.Layout.TheVariants.{Undefined}
 use Rattle.vk_types.specs.declared.regions.Barrier.{Barrier}
 use Rattle.vk_types.specs.declared.ops.Node.{Node}
-use Rattle.vk_types.specs.Touches.{touches, barrier_of}
-use Rattle.vk_model.specs.Log.{Item, Command, node_ranges, conflict, node_edge, touches_object, item_edge, HasEdge, Reaches, direct, further, NoneEmpty, layout_set, layout_by, layout_step, layout_from, layout_after, FindsLayouts, IsSound, Conflicts}
-use Rattle.vk_model.proofs.Clashes.{some_clash_turned, barrier_touches_object, conflict_before_barrier, conflict_after_barrier, edge_conflict}
+use Rattle.vk_types.specs.Touches.{touches, barrier_of, the_end}
+use Rattle.vk_model.specs.Log.{Item, Command, HostWrite, Range, node_ranges, clash, items_clash, conflict, node_edge, touches_object, item_edge, HasEdge, Reaches, direct, further, NoneEmpty, layout_set, layout_by, layout_step, layout_from, layout_after, FindsLayouts, IsSound, Conflicts}
+use Rattle.vk_model.proofs.Clashes.{some_clash_turned, conflict_mutual, clashing_touch, barrier_touches_object, conflict_before_barrier, conflict_after_barrier, edge_conflict}
 
 -- where a place goes when the two items behind the front change places
 abbrev pub swapped : List Item → ℕ → ℕ
@@ -108,13 +109,43 @@ finds_same xs ys n same finds = record {
 
 -- The theorem
 
-module _ (front back : List Item) (p q : ℕ) (a b : Node) (roomy_a : NoneEmpty a) (roomy_b : NoneEmpty b) (none : conflict a b ≡ false) where
-  no_edge : item_edge (Command p a) (Command q b) ≡ false
-  no_edge = go (cases_Bool (item_edge (Command p a) (Command q b)))
+same_node : (r s : ℕ) (m n : Node) → Command r m ≡ Command s n → m ≡ n
+same_node r s m n e = cc
+
+-- What the first of two neighbours, x, needs to come behind the second, y.
+pub record MayPass (x y : Item) : Type 0 where
+  pub apart : item_edge x y ≡ false
+  pub layouts : (id : ℕ) (layout : Layout) → layout_step y id (layout_step x id layout) ≡ layout_step x id (layout_step y id layout)
+  pub x_leaves : (q : ℕ) (n : Node) → y ≡ Command q n → (id : ℕ) → touches_object n id ≡ true → Leaves x id
+  pub y_leaves : (q : ℕ) (n : Node) → x ≡ Command q n → (id : ℕ) → touches_object n id ≡ true → Leaves y id
+  pub no_conflict : (p q : ℕ) (a b : Node) → x ≡ Command p a → y ≡ Command q b → conflict b a ≡ false
+
+module _ (front back : List Item) (x y : Item) (may : MayPass x y) where
+  pub sound_passed : IsSound (front ++ x ∷ y ∷ back) → IsSound (front ++ y ∷ x ∷ back)
+  sound_passed sound = record {
+    ordered = λ j k r s c d lt c_at d_at clash. ordered j k r s c d c_at d_at clash (swapped_order front back y x j k lt);
+    laid_out = λ k r n at. finds_same (take (swapped front k) (front ++ x ∷ y ∷ back)) (take k (front ++ y ∷ x ∷ back)) n
+        (λ id t. layout_swapped front back x y id k Undefined (may.layouts id)
+        (λ is. may.x_leaves r n (same_Some y (Command r n) (sym is ∙ at)) id t)
+        (λ is. may.y_leaves r n (same_Some x (Command r n) (sym is ∙ at)) id t))
+        (sound.laid_out (swapped front k) r n (get_swapped front back y x k ∙ at));
+  }
     where
-      go : (item_edge (Command p a) (Command q b) ≡ true) ⊎ (item_edge (Command p a) (Command q b) ≡ false) → item_edge (Command p a) (Command q b) ≡ false
-      go (inl e) = absurd (both_ways (conflict a b) none (edge_conflict a b roomy_a roomy_b (and_parts (eqb p q) (node_edge a b) e).1))
-      go (inr e) = e
+      ordered : (j k r s : ℕ) (c d : Node) → slice_get (front ++ y ∷ x ∷ back) j ≡ Some (Command r c) → slice_get (front ++ y ∷ x ∷ back) k ≡ Some (Command s d) → Conflicts c d →
+          (swapped front j < swapped front k) ⊎ ((slice_get (front ++ y ∷ x ∷ back) j ≡ Some y) × (slice_get (front ++ y ∷ x ∷ back) k ≡ Some x)) →
+          Reaches (front ++ y ∷ x ∷ back) j k
+      ordered j k r s c d c_at d_at clash (inl lt) =
+          let before : Reaches (front ++ x ∷ y ∷ back) (swapped front j) (swapped front k) = sound.ordered (swapped front j) (swapped front k) r s c d lt (get_swapped front back y x j ∙ c_at) (get_swapped front back y x k ∙ d_at) clash in
+          let back_again : Reaches (front ++ y ∷ x ∷ back) (swapped front (swapped front j)) (swapped front (swapped front k)) = reaches_swapped front back x y may.apart before in
+          subst (λ m. Reaches (front ++ y ∷ x ∷ back) m k) (swapped_twice front j) (subst (λ m. Reaches (front ++ y ∷ x ∷ back) (swapped front (swapped front j)) m) (swapped_twice front k) back_again)
+      ordered j k r s c d c_at d_at clash (inr both) =
+          absurd (both_ways (conflict c d) (may.no_conflict s r d c (same_Some x (Command s d) (sym both.1 ∙ d_at)) (same_Some y (Command r c) (sym both.0 ∙ c_at))) clash)
+
+-- Nodes
+
+module _ (p q : ℕ) (a b : Node) (roomy_a : NoneEmpty a) (roomy_b : NoneEmpty b) (none : conflict a b ≡ false) where
+  no_edge : item_edge (Command p a) (Command q b) ≡ false
+  no_edge = false_from_ne_true (item_edge (Command p a) (Command q b)) (λ e. both_ways (conflict a b) none (edge_conflict a b roomy_a roomy_b (and_parts (eqb p q) (node_edge a b) e).1))
 
   -- a node leaves the layout of what the other touches
   a_leaves : (id : ℕ) → touches_object b id ≡ true → Leaves (Command p a) id
@@ -132,28 +163,41 @@ module _ (front back : List Item) (p q : ℕ) (a b : Node) (roomy_a : NoneEmpty 
           let leaves : Leaves (Command p a) id = leaves_unless p a id (λ x is same. both_ways (touches_object a id) f (subst (λ i. touches_object a i ≡ true) same (barrier_touches_object a x is))) in
           ap (layout_step (Command q b) id) (leaves layout) ∙ sym (leaves (layout_step (Command q b) id layout))
 
-  pub sound_swapped : IsSound (front ++ Command p a ∷ Command q b ∷ back) → IsSound (front ++ Command q b ∷ Command p a ∷ back)
-  sound_swapped sound = record {
-    ordered = λ j k r s c d lt c_at d_at clash. ordered j k r s c d c_at d_at clash (swapped_order front back (Command q b) (Command p a) j k lt);
-    laid_out = λ k r n at. finds_same (take (swapped front k) (front ++ Command p a ∷ Command q b ∷ back)) (take k (front ++ Command q b ∷ Command p a ∷ back)) n
-        (λ id t. layout_swapped front back (Command p a) (Command q b) id k Undefined (steps_commute id)
-        (λ is. a_leaves id (subst (λ m. touches_object m id ≡ true) (same_node r q n b (same_Some (Command r n) (Command q b) (sym at ∙ is))) t))
-        (λ is. b_leaves id (subst (λ m. touches_object m id ≡ true) (same_node r p n a (same_Some (Command r n) (Command p a) (sym at ∙ is))) t)))
-        (sound.laid_out (swapped front k) r n (get_swapped front back (Command q b) (Command p a) k ∙ at));
+  nodes_pass : MayPass (Command p a) (Command q b)
+  nodes_pass = record {
+    apart = no_edge;
+    layouts = steps_commute;
+    x_leaves = λ r n is id t. a_leaves id (subst (λ m. touches_object m id ≡ true) (sym (same_node q r b n is)) t);
+    y_leaves = λ r n is id t. b_leaves id (subst (λ m. touches_object m id ≡ true) (sym (same_node p r a n is)) t);
+    no_conflict = λ r s c d is_c is_d. subst (λ m. conflict m c ≡ false) (same_node q s b d is_d) (subst (λ m. conflict b m ≡ false) (same_node p r a c is_c) (conflict_mutual b a ∙ none));
   }
-    where
-      same_node : (r s : ℕ) (m n : Node) → Command r m ≡ Command s n → m ≡ n
-      same_node r s m n e = cc
 
-      ordered : (j k r s : ℕ) (c d : Node) → slice_get (front ++ Command q b ∷ Command p a ∷ back) j ≡ Some (Command r c) → slice_get (front ++ Command q b ∷ Command p a ∷ back) k ≡ Some (Command s d) → Conflicts c d →
-          (swapped front j < swapped front k) ⊎ ((slice_get (front ++ Command q b ∷ Command p a ∷ back) j ≡ Some (Command q b)) × (slice_get (front ++ Command q b ∷ Command p a ∷ back) k ≡ Some (Command p a))) →
-          Reaches (front ++ Command q b ∷ Command p a ∷ back) j k
-      ordered j k r s c d c_at d_at clash (inl lt) =
-          let before : Reaches (front ++ Command p a ∷ Command q b ∷ back) (swapped front j) (swapped front k) = sound.ordered (swapped front j) (swapped front k) r s c d lt (get_swapped front back (Command q b) (Command p a) j ∙ c_at) (get_swapped front back (Command q b) (Command p a) k ∙ d_at) clash in
-          let back_again : Reaches (front ++ Command q b ∷ Command p a ∷ back) (swapped front (swapped front j)) (swapped front (swapped front k)) = reaches_swapped front back (Command p a) (Command q b) no_edge before in
-          subst (λ m. Reaches (front ++ Command q b ∷ Command p a ∷ back) m k) (swapped_twice front j) (subst (λ m. Reaches (front ++ Command q b ∷ Command p a ∷ back) (swapped front (swapped front j)) m) (swapped_twice front k) back_again)
-      ordered j k r s c d c_at d_at clash (inr both) =
-          let is_b : c ≡ b = same_node r q c b (same_Some (Command r c) (Command q b) (sym c_at ∙ both.0)) in
-          let is_a : d ≡ a = same_node s p d a (same_Some (Command s d) (Command p a) (sym d_at ∙ both.1)) in
-          let turned : Conflicts b a = subst (λ m. Conflicts b m) is_a (subst (λ m. Conflicts m d) is_b clash) in
-          absurd (both_ways (conflict a b) none (some_clash_turned (node_ranges b) (node_ranges a) turned))
+pub sound_swapped : (front back : List Item) (p q : ℕ) (a b : Node) → NoneEmpty a → NoneEmpty b → conflict a b ≡ false → IsSound (front ++ Command p a ∷ Command q b ∷ back) → IsSound (front ++ Command q b ∷ Command p a ∷ back)
+sound_swapped front back p q a b roomy_a roomy_b none = sound_passed front back (Command p a) (Command q b) (nodes_pass p q a b roomy_a roomy_b none)
+
+-- A write by the host to an object that a node does not touch
+
+write_passes : (q : ℕ) (n : Node) (id at : ℕ) (bytes : List ℕ) → touches_object n id ≡ false → MayPass (Command q n) (HostWrite id at bytes)
+write_passes q n id at bytes untouched = record {
+  apart = untouched;
+  layouts = λ other layout. refl;
+  x_leaves = λ r m is. absurd (no_command r m is);
+  y_leaves = λ r m is other t layout. refl;
+  no_conflict = λ r s a b is_a is_b. absurd (no_command s b is_b);
+}
+  where
+    no_command : (r : ℕ) (m : Node) → HostWrite id at bytes ≡ Command r m → ⊥
+    no_command r m is = cc
+
+pub sound_write_passed : (front back : List Item) (q : ℕ) (n : Node) (id at : ℕ) (bytes : List ℕ) → touches_object n id ≡ false → IsSound (front ++ Command q n ∷ HostWrite id at bytes ∷ back) → IsSound (front ++ HostWrite id at bytes ∷ Command q n ∷ back)
+sound_write_passed front back q n id at bytes untouched = sound_passed front back (Command q n) (HostWrite id at bytes) (write_passes q n id at bytes untouched)
+
+pub write_apart : (q : ℕ) (n : Node) (id at : ℕ) (bytes : List ℕ) → touches_object n id ≡ false → items_clash (Command q n) (HostWrite id at bytes) ≡ false
+write_apart q n id at bytes untouched = false_from_ne_true (items_clash (Command q n) (HostWrite id at bytes)) (λ e.
+    elim (or_cases (list_any (clash whole) (node_ranges n)) false (some_clash_turned (node_ranges n) (whole ∷ []) e)) [
+      | inl c ↦ both_ways (touches_object n id) untouched (clashing_touch n whole (touches n) c)
+      | inr f ↦ false≢true f
+    ])
+  where
+    whole : Range
+    whole = record { id = id; start = 0; end = the_end; written = true }

@@ -24,6 +24,11 @@ pub fn sound_log_grows()
         IsSound (log ++ x ∷ []) }
 {}
 
+/// A beginning of a sound log is sound.
+pub fn sound_log_begins_soundly()
+    ensures { (log more : List Item) → IsSound (log ++ more) → IsSound log }
+{}
+
 /// A tracker knows the last barrier of an object. A barrier that waits for all that touched the object since, or for the
 /// last barrier where nothing did, and a node that waits for the last barriers of its objects and conflicts with
 /// nothing since, leave the log sound and tracked.

@@ -23,7 +23,8 @@ pub use agreement_laws::{
     places_agree_as_lists,
 };
 pub use growth_laws::{
-    fenced_log_grows, fenced_log_is_sound, sound_log_grows, trackers_keep_logs_sound,
+    fenced_log_grows, fenced_log_is_sound, sound_log_begins_soundly, sound_log_grows,
+    trackers_keep_logs_sound,
 };
 pub use node_laws::{copy_is_exact, image_writes_are_exact};
 pub use order_laws::{
@@ -31,7 +32,9 @@ pub use order_laws::{
     ready_item_finds_log_order, settled_object_is_as_in_log_order, whole_order_is_log_order,
 };
 pub use queue_laws::{objects_depend_on_their_own_items, queues_are_in_order};
-pub use swap_laws::{lists_change_places, neighbours_commute, neighbours_stay_sound};
+pub use swap_laws::{
+    lists_change_places, neighbours_commute, neighbours_stay_sound, writes_come_first,
+};
 use vk_types::{Access, Node, Touch};
 
 /// Whether the node writes what the touch covers. A barrier does, since it may discard the contents.

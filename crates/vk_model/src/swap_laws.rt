@@ -1,9 +1,9 @@
-// Nodes without a conflict change places.
+// Neighbouring items without a conflict change places.
 ghost use Rattle.std.specs.Prelude.{◌≡◌, ℕ, ◌+◌, List, ◌∷◌, ◌++◌, false};
 ghost use Rattle.std.specs.List.{AllByRecursion};
 ghost use Rattle.vk_types.specs.declared.handles.Kind.{Kind};
 ghost use Rattle.vk_types.specs.declared.ops.Node.{Node};
-ghost use Rattle.vk_model.specs.Log.{Item, Command, conflict as conflicts, items_clash, NoneEmpty, IsSound, commands, NoConflict};
+ghost use Rattle.vk_model.specs.Log.{Item, Command, HostWrite, touches_object, conflict as conflicts, items_clash, NoneEmpty, IsSound, commands, NoConflict};
 ghost use Rattle.vk_model.specs.Meaning.{eval};
 
 /// Neighbours without a conflict may change places.
@@ -30,4 +30,15 @@ pub fn lists_change_places()
         AllByRecursion NoneEmpty xs → AllByRecursion NoneEmpty ys → NoConflict xs ys →
         eval kinds (front ++ (commands q xs ++ (commands q ys ++ back)))
         ≡ eval kinds (front ++ (commands q ys ++ (commands q xs ++ back))) }
+{}
+
+/// A write by the host may come before a node that does not touch its object.
+pub fn writes_come_first()
+    ensures sound { (front back : List Item) (q : ℕ) (n : Node) (id at : ℕ) (bytes : List ℕ) → touches_object n id ≡ false →
+        IsSound (front ++ Command q n ∷ HostWrite id at bytes ∷ back) →
+        IsSound (front ++ HostWrite id at bytes ∷ Command q n ∷ back) }
+    ensures contents { (kinds : ℕ → Kind) (front back : List Item) (q : ℕ) (n : Node) (id at : ℕ) (bytes : List ℕ) →
+        touches_object n id ≡ false →
+        eval kinds (front ++ Command q n ∷ HostWrite id at bytes ∷ back)
+        ≡ eval kinds (front ++ HostWrite id at bytes ∷ Command q n ∷ back) }
 {}

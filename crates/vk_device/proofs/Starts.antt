@@ -7,6 +7,7 @@ use Rattle.vk_device.specs.declared.logged.Logged.{Logged}
 use Rattle.vk_device.specs.declared.logged.Logged.TheVariants.{Created, Wrote, Submitted, Ran, Fetched, Destroyed}
 use Rattle.vk_device.specs.Journal.{accepts, accepted}
 use Rattle.vk_device.specs.Order.{entry_items, log_of, batch_start}
+use Rattle.vk_device.proofs.Orders.{log_of-nil}
 
 -- Folds that append
 
@@ -46,7 +47,7 @@ pub start_next : (journal : List Logged) (b : Batch) → batch_start (journal ++
 start_next [] b = ap (λ n. batch_start (Submitted b ∷ []) n) (ap length accepted-nil) ∙ behind
   where
     none : length (log_of []) ≡ 0
-    none = ap length Rattle.vk_device.proofs.Orders.log_of-nil
+    none = ap length log_of-nil
 
     behind : length b.waits ≡ length (log_of []) + length b.waits
     behind = omega (arith, none)
