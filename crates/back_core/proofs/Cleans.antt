@@ -35,8 +35,7 @@ module _ (before now : List Logged) (old cur : List Garbage) (read : List ℕ) (
   pub nothing_done : (stop : Option Stop) → Destroys before now old cur read count stop → ((count == 0) && is_none stop) ≡ true → (now ≡ before) × (without_covered read (count + 1) old ≡ old)
   nothing_done stop done nothing =
       let zero_ : count ≡ 0 = eqb-true count 0 (both-left _ _ nothing) in
-      let none : covered_of read old ≡ [] = empty (covered_of read old) (sym zero_ ∙ done.all (none_is stop (both-right (count == 0) _ nothing))) in
-      (
+      let none : covered_of read old ≡ [] = empty (covered_of read old) (sym zero_ ∙ done.all (none_is stop (both-right (count == 0) _ nothing))) in (
         done.destroyed ∙ (ap (λ n. before ++ destroys (take n (covered_of read old))) zero_ ∙ append-nil before),
         ap (λ n. without_covered read (n + 1) old) zero_ ∙ without_same read old none,
       )
@@ -46,9 +45,9 @@ module _ (before now : List Logged) (old cur : List Garbage) (read : List ℕ) (
   some_done (Some stop) done e = let l = done.some stop refl in omega arith
   some_done None done e = some_at count (done.all refl) e
     where
-    some_at : (n : ℕ) → n ≡ length (covered_of read old) → ((n == 0) && true) ≡ false → 0 < length (covered_of read old)
-    some_at zero is e = absurd (cc e)
-    some_at (suc n) is e = omega arith
+      some_at : (n : ℕ) → n ≡ length (covered_of read old) → ((n == 0) && true) ≡ false → 0 < length (covered_of read old)
+      some_at zero is e = absurd (cc e)
+      some_at (suc n) is e = omega arith
 
   pub fewer_left : (stop : Option Stop) → Destroys before now old cur read count stop → ((count == 0) && is_none stop) ≡ false → length cur < length old
   fewer_left stop done e = rw (done.left, add-one count) (without_shorter read count old (some_done stop done e))
@@ -71,9 +70,9 @@ cleans_up journal collects old new read count by =
       history = by.history ∙ ap (λ b. cond b old.history (old.history ++ event.Cleaned read count ∷ [])) (and-true (count == 0));
     }
   where
-  and-true : (b : Bool) → (b && true) ≡ b
-  and-true true = refl
-  and-true false = refl
+    and-true : (b : Bool) → (b && true) ≡ b
+    and-true true = refl
+    and-true false = refl
 
 pub cleans_some : {D : Type 0} (journal : D → List Logged) (old mid new : BackModel D) (read : List ℕ) (count : ℕ) (stop : Stop) → CleansBy journal old mid read count (Some stop) → new.device ≡ mid.device → new.history ≡ stopped_by mid.history stop → CleansSome journal old new read stop
 cleans_some journal old mid new read count stop by device history = record {
@@ -83,6 +82,6 @@ cleans_some journal old mid new read count stop by device history = record {
   history = history ∙ ap (λ h. stopped_by h stop) (by.history ∙ ap (λ b. cond b old.history (old.history ++ event.Cleaned read count ∷ [])) (and-false (count == 0)));
 }
   where
-  and-false : (b : Bool) → (b && false) ≡ false
-  and-false true = refl
-  and-false false = refl
+    and-false : (b : Bool) → (b && false) ≡ false
+    and-false true = refl
+    and-false false = refl

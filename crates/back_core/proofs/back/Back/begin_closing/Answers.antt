@@ -11,9 +11,8 @@ invariant_of-self g c =
     let laws : GoesOn = record { goes_on = c.runs_go_on.ensures.goes_on; journal = c.runs_go_on.ensures.journal; garbage = c.runs_go_on.ensures.garbage } in
     let b = c.self.inside in
     let h = map event_of b.history.items in
-    let holds = c.self.invariant.0 in
-    (
+    let holds = c.self.invariant.0 in (
       at_end (λ l. Holds l (g.D.Device.journal b.device) (g.D.Device.bytes_of b.device) b.queue b.garbage Runs.Closing (b.promised - 1)) b.history.items c.push_reserved.new.self.items (Event Closing) c.push_reserved.ensures.items
-        (holds_closing laws h (g.D.Device.journal b.device) (g.D.Device.bytes_of b.device) b.queue b.garbage b.ending b.promised holds c.in-Running.is),
+          (holds_closing laws h (g.D.Device.journal b.device) (g.D.Device.bytes_of b.device) b.queue b.garbage b.ending b.promised holds c.in-Running.is),
       omega (arith, c.self.invariant.1, c.push_reserved.ensures.len, c.push_reserved.ensures.capacity, closing_room laws h (g.D.Device.journal b.device) (g.D.Device.bytes_of b.device) b.queue b.garbage b.ending b.promised holds c.in-Running.is),
     )
