@@ -220,13 +220,6 @@ place_in [] k x lt e = absurd (omega (arith, lt))
 place_in (y ∷ list) zero x lt e = ap Some e
 place_in (y ∷ list) (suc k) x lt e = place_in list k x (omega (arith, lt)) e
 
-pub take_whole : {X : Type 0} (list : List X) (n : ℕ) → n ≡ length list → take n list ≡ list
-take_whole list n e = ap (λ k. take k list) e ∙ all list
-  where
-    all : {X : Type 0} (list : List X) → take (length list) list ≡ list
-    all [] = refl
-    all (x ∷ list) = ap (λ l. x ∷ l) (all list)
-
 -- what is garbage and covered can be destroyed in order, as laws tell it
 pub can_destroy : (h : List BackEvent) (journal : List Logged) (read : List ℕ) (items : List Garbage)
     → ((k : ℕ) (item : Garbage) → slice_get (covered_in h read) k ≡ Some item → IsSome (kind_of (journal_of h ++ destroys (take k (covered_in h read))) item.handle.0))
