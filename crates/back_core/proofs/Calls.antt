@@ -1,6 +1,6 @@
 -- What a back keeps after each of its calls.
-use Rattle.std.proofs.Common.{◌≡◌, ℕ, ◌+◌, ◌*◌, ◌-◌, ◌<◌, ◌≤◌, true, List, [], ◌∷◌, ◌++◌, length, refl, sym, ap, ◌∙◌, subst, arith, length-append}
-use Rattle.std.specs.Prelude.{◌/◌, zero, suc, slice_get, Some, None}
+use Rattle.std.proofs.Common.{◌≡◌, ℕ, ◌+◌, ◌-◌, ◌<◌, ◌≤◌, true, List, [], ◌∷◌, ◌++◌, length, refl, sym, ap, ◌∙◌, arith}
+use Rattle.std.specs.Prelude.{◌/◌, zero, suc, slice_get, Some}
 use Rattle.std.proofs.lemmas.List.{append-nil}
 use Rattle.vk_types.specs.declared.handles.HandleId.{HandleId}
 use Rattle.vk_types.specs.declared.handles.Kind.{Kind}
@@ -17,16 +17,12 @@ use Rattle.submit_queue.specs.Histories as queue
 use Rattle.submit_queue.specs.declared.queue.SubmitQueue.{SubmitQueue}
 use Rattle.submit_queue.specs.Kept.{Keeps}
 use Rattle.back_core.specs.declared.back_event.BackEvent.{BackEvent}
-use Rattle.back_core.specs.declared.back_event.BackEvent.TheVariants.{Created, Enqueued, Submitted, Gave, Abandoned, Cleaned}
+use Rattle.back_core.specs.declared.back_event.BackEvent.TheVariants.{Created, Enqueued, Gave, Abandoned, Cleaned}
 use Rattle.back_core.specs.declared.ending.Ending.{Ending}
 use Rattle.back_core.specs.Needs.{MayEnqueue, MayGive}
 use Rattle.back_core.specs.History.{queue_event, queue_history, link_of}
-use Rattle.back_core.specs.Run.{garbage_of, garbage_after, logged_by, covered_in, journal_of, MayHappen, WereRead, IsRun, work_left, IsProgress}
-use Rattle.back_core.specs.Back.{Holds, owed, ending_of, ending_after, holdings_of, holdings_after}
-use Rattle.vk_device.specs.Order.{AllRan}
-use Rattle.back_core.specs.declared.ending.Step.{Step}
-use Rattle.back_core.specs.declared.ending.Step.TheVariants.{Done, Nothing}
-use Rattle.back_core.specs.Steps.{Submits, Proceeds}
+use Rattle.back_core.specs.Run.{garbage_of, garbage_after, logged_by, covered_in, MayHappen, WereRead, IsRun, work_left, IsProgress}
+use Rattle.back_core.specs.Back.{Holds, ending_of, ending_after, holdings_of, holdings_after}
 use Rattle.back_core.proofs.Room.{held_in, length-without}
 use Rattle.back_core.proofs.Holding.{GoesOn, holds_then, quiet_kept, owed_created, owed_same, owed_enqueued, owed_gave, owed_abandoned, owed_cleaned, owed_progress}
 

@@ -6,13 +6,12 @@ use Rattle.std.proofs.lemmas.List.{append-nil}
 use Rattle.vk_types.specs.declared.stops.Stop.{Stop}
 use Rattle.vk_device.specs.declared.logged.Logged.{Logged}
 use Rattle.garbage.specs.declared.entry.Garbage.{Garbage}
-use Rattle.garbage.specs.Collecting.{collect}
 use Rattle.back_core.specs.declared.back_event.BackEvent.TheVariants as event
-use Rattle.back_core.specs.Run.{without_covered, destroys, covered_in, garbage_of}
-use Rattle.back_core.specs.Back.{BackModel, stopped_by}
-use Rattle.back_core.specs.Steps.{CleansBy, CleansUp, CleansSome}
+use Rattle.back_core.specs.Run.{without_covered, destroys, garbage_of}
+use Rattle.back_core.specs.Back.{BackModel}
+use Rattle.back_core.specs.Steps.{CleansBy}
 use Rattle.back_core.specs.Cleaning.{covered_of, Destroys}
-use Rattle.back_core.proofs.TakenOut.{without_same, without_shorter, empty, take_whole}
+use Rattle.back_core.proofs.TakenOut.{without_same, without_shorter, empty}
 
 none_is : (stop : Option Stop) → is_none stop ≡ true → stop ≡ None
 none_is None e = refl
@@ -35,8 +34,7 @@ module _ (before now : List Logged) (old cur : List Garbage) (read : List ℕ) (
   pub nothing_done : (stop : Option Stop) → Destroys before now old cur read count stop → ((count == 0) && is_none stop) ≡ true → (now ≡ before) × (without_covered read (count + 1) old ≡ old)
   nothing_done stop done nothing =
       let zero_ : count ≡ 0 = eqb-true count 0 (both-left _ _ nothing) in
-      let none : covered_of read old ≡ [] = empty (covered_of read old) (sym zero_ ∙ done.all (none_is stop (both-right (count == 0) _ nothing))) in
-      (
+      let none : covered_of read old ≡ [] = empty (covered_of read old) (sym zero_ ∙ done.all (none_is stop (both-right (count == 0) _ nothing))) in (
         done.destroyed ∙ (ap (λ n. before ++ destroys (take n (covered_of read old))) zero_ ∙ append-nil before),
         ap (λ n. without_covered read (n + 1) old) zero_ ∙ without_same read old none,
       )
@@ -46,9 +44,9 @@ module _ (before now : List Logged) (old cur : List Garbage) (read : List ℕ) (
   some_done (Some stop) done e = let l = done.some stop refl in omega arith
   some_done None done e = some_at count (done.all refl) e
     where
-    some_at : (n : ℕ) → n ≡ length (covered_of read old) → ((n == 0) && true) ≡ false → 0 < length (covered_of read old)
-    some_at zero is e = absurd (cc e)
-    some_at (suc n) is e = omega arith
+      some_at : (n : ℕ) → n ≡ length (covered_of read old) → ((n == 0) && true) ≡ false → 0 < length (covered_of read old)
+      some_at zero is e = absurd (cc e)
+      some_at (suc n) is e = omega arith
 
   pub fewer_left : (stop : Option Stop) → Destroys before now old cur read count stop → ((count == 0) && is_none stop) ≡ false → length cur < length old
   fewer_left stop done e = rw (done.left, add-one count) (without_shorter read count old (some_done stop done e))
@@ -59,30 +57,3 @@ pub cleans_by : {D : Type 0} (journal : D → List Logged) (old new : BackModel 
 cleans_by journal old new items items' read count stop done is is' history =
     let d = subst (λ l. Destroys (journal old.device) (journal new.device) l items' read count stop) is done in
     record { destroyed = d.destroyed; left = sym is' ∙ d.left; all = d.all; some = d.some; history = history }
-
-pub cleans_up : {D : Type 0} (journal : D → List Logged) → ((read : List ℕ) (list : List Garbage) → without_covered read (length (collect list read).0 + 1) list ≡ (collect list read).1)
-    → (old new : BackModel D) (read : List ℕ) (count : ℕ) → CleansBy journal old new read count None → CleansUp journal old new read count
-cleans_up journal collects old new read count by =
-    let all : count ≡ length (covered_in old.history read) = by.all refl in
-    record {
-      destroyed = by.destroyed ∙ ap (λ l. journal old.device ++ destroys l) (take_whole (covered_in old.history read) count all);
-      left = by.left ∙ (ap (λ n. without_covered read (n + 1) (garbage_of old.history)) all ∙ collects read (garbage_of old.history));
-      counted = all;
-      history = by.history ∙ ap (λ b. cond b old.history (old.history ++ event.Cleaned read count ∷ [])) (and-true (count == 0));
-    }
-  where
-  and-true : (b : Bool) → (b && true) ≡ b
-  and-true true = refl
-  and-true false = refl
-
-pub cleans_some : {D : Type 0} (journal : D → List Logged) (old mid new : BackModel D) (read : List ℕ) (count : ℕ) (stop : Stop) → CleansBy journal old mid read count (Some stop) → new.device ≡ mid.device → new.history ≡ stopped_by mid.history stop → CleansSome journal old new read stop
-cleans_some journal old mid new read count stop by device history = record {
-  count = count;
-  fewer = by.some stop refl;
-  destroyed = ap journal device ∙ by.destroyed;
-  history = history ∙ ap (λ h. stopped_by h stop) (by.history ∙ ap (λ b. cond b old.history (old.history ++ event.Cleaned read count ∷ [])) (and-false (count == 0)));
-}
-  where
-  and-false : (b : Bool) → (b && false) ≡ false
-  and-false true = refl
-  and-false false = refl

@@ -1,6 +1,6 @@
 -- A back holds more: what one more event leaves of what it keeps.
-use Rattle.std.proofs.Common.{◌≡◌, ℕ, ◌+◌, ◌*◌, ◌-◌, ◌<◌, ◌≤◌, Bool, true, false, cond, List, [], ◌∷◌, ◌++◌, length, refl, sym, ap, ◌∙◌, subst, inl, inr, arith, length-append}
-use Rattle.std.specs.Prelude.{◌/◌, ◌⊎◌, Some, None, map}
+use Rattle.std.proofs.Common.{◌≡◌, ℕ, ◌+◌, ◌*◌, ◌-◌, ◌<◌, ◌≤◌, true, false, List, [], ◌∷◌, ◌++◌, length, refl, sym, ap, ◌∙◌, subst, arith, length-append}
+use Rattle.std.specs.Prelude.{map}
 use Rattle.std.proofs.lemmas.List.{append-nil, map-append}
 use Rattle.vk_types.specs.declared.handles.HandleId.{HandleId}
 use Rattle.vk_types.specs.declared.handles.Kind.{Kind}
@@ -9,18 +9,17 @@ use Rattle.vk_types.specs.declared.batches.QueueSerial.{QueueSerial}
 use Rattle.vk_types.specs.declared.stops.Stop.{Stop}
 use Rattle.vk_device.specs.declared.logged.Logged.{Logged}
 use Rattle.vk_device.specs.Running.{IsInOrder}
-use Rattle.garbage.specs.declared.entry.Garbage.{Garbage}
 use Rattle.garbage.specs.Steps.{GarbageAndRoom}
 use Rattle.submit_queue.specs.Histories as queue
 use Rattle.submit_queue.specs.declared.queue.SubmitQueue.{SubmitQueue}
 use Rattle.submit_queue.specs.Kept.{Keeps}
 use Rattle.back_core.specs.declared.back_event.BackEvent.{BackEvent}
-use Rattle.back_core.specs.declared.back_event.BackEvent.TheVariants.{Created, Wrote, Enqueued, Submitted, Ran, Retired, Fetched, Gave, Abandoned, Cleaned, Closing, Stopped}
+use Rattle.back_core.specs.declared.back_event.BackEvent.TheVariants.{Created, Enqueued, Gave, Abandoned, Cleaned, Closing, Stopped}
 use Rattle.back_core.specs.declared.ending.Ending.{Ending}
 use Rattle.back_core.specs.declared.ending.Ending.TheVariants as Runs
 use Rattle.back_core.specs.declared.stored.Stored.{Stored}
 use Rattle.back_core.specs.History.{queue_event, queue_history, own_part}
-use Rattle.back_core.specs.Run.{garbage_of, garbage_after, logged_by, journal_of, MayHappen, IsRun, work_in, work_left, IsProgress}
+use Rattle.back_core.specs.Run.{garbage_of, garbage_after, logged_by, journal_of, MayHappen, IsRun, work_in, work_left}
 use Rattle.back_core.specs.Back.{Holds, event_of, owed, ending_of, ending_after, is_stopped, endings_left, holdings_of, holdings_after}
 use Rattle.back_core.proofs.Sees.{queue_then, queue_same}
 use Rattle.back_core.proofs.Room.{holdings_then, ending_then, held_in, length-without, work_pushed}
@@ -161,10 +160,10 @@ holds_stopped laws h stop journal bytes q g ending promised holds runs =
       garbage_room = holds.garbage_room;
     })
   where
-  stopped_is : (ending : Ending) (stop : Stop) → is_stopped ending ≡ false → ending_after ending (Stopped stop) ≡ Runs.Stopped stop
-  stopped_is Runs.Running stop e = refl
-  stopped_is Runs.Closing stop e = refl
-  stopped_is (Runs.Stopped first) stop e = absurd (cc e)
+    stopped_is : (ending : Ending) (stop : Stop) → is_stopped ending ≡ false → ending_after ending (Stopped stop) ≡ Runs.Stopped stop
+    stopped_is Runs.Running stop e = refl
+    stopped_is Runs.Closing stop e = refl
+    stopped_is (Runs.Stopped first) stop e = absurd (cc e)
 
 pub stopped_room : GoesOn → (h : List BackEvent) (stop : Stop) (journal : List Logged) (bytes : ℕ → List ℕ) (q : SubmitQueue) (g : GarbageAndRoom) (ending : Ending) (promised : ℕ) → Holds h journal bytes q g ending promised → is_stopped ending ≡ false → 1 ≤ promised
 stopped_room laws h stop journal bytes q g ending promised holds runs = let less = owed_stopped laws h stop (ap is_stopped (sym holds.ends) ∙ runs) in omega (arith, holds.room)

@@ -1,6 +1,13 @@
 mod Sees
 mod CleanedUp
 mod Uses
+mod Room
+mod Holding
+mod Calls
+mod Numbers
+mod TakenOut
+mod Cleans
+mod Waiting
 mod Runs
 mod Lists
 mod Parts
@@ -30,10 +37,3 @@ mod Given
 mod Lives
 mod Fits
 mod Meets
-mod Room
-mod Holding
-mod Calls
-mod Numbers
-mod TakenOut
-mod Cleans
-mod Waiting

@@ -1,8 +1,7 @@
 -- Numbers of batches, and bytes that are replaced.
-use Rattle.std.proofs.Common.{◌≡◌, ℕ, zero, suc, ◌+◌, ◌-◌, ◌<◌, ◌≤◌, ◌==◌, Bool, true, false, cond, List, [], ◌∷◌, ◌++◌, length, take, drop, refl, sym, ap, ◌∙◌, subst, arith, length-append}
+use Rattle.std.proofs.Common.{◌≡◌, ℕ, zero, suc, ◌+◌, ◌≤◌, ◌==◌, Bool, true, false, cond, List, [], ◌∷◌, ◌++◌, length, take, drop, refl, ap, ◌∙◌, subst, arith, length-append}
 use Rattle.std.specs.Prelude.{map, Option, Some, None, slice_get}
-use Rattle.std.specs.List.{fold, flat_map}
-use Rattle.std.proofs.lemmas.List.{append-nil, map-append}
+use Rattle.std.proofs.lemmas.List.{append-nil}
 use Rattle.std.proofs.lemmas.List.Sums.{fold-append}
 use Rattle.std.proofs.lemmas.List.Concat.{flat_map-append}
 use Rattle.cells.specs.Contents.{overwritten}
@@ -72,7 +71,7 @@ batches_few (s ∷ items) =
     let more = batches_few items in
     let one = event_few (event_of s) in
     let parts : length (queue.batches (queue_history (map event_of (s ∷ items)))) ≡ length (queue.batches (queue_event (event_of s))) + length (queue.batches (queue_history (map event_of items)))
-        = ap length (flat_map-append queue.pushed_by (queue_event (event_of s)) (queue_history (map event_of items))) ∙ length-append (queue.batches (queue_event (event_of s))) (queue.batches (queue_history (map event_of items))) in
+    = ap length (flat_map-append queue.pushed_by (queue_event (event_of s)) (queue_history (map event_of items))) ∙ length-append (queue.batches (queue_event (event_of s))) (queue.batches (queue_history (map event_of items))) in
     omega arith
 
 drop_all : (items : List ℕ) → drop (length items) items ≡ []

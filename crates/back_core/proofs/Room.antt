@@ -1,10 +1,9 @@
 -- The room that a back keeps for events to come.
-use Rattle.std.proofs.Common.{◌≡◌, ◌≢◌, ℕ, zero, suc, ◌+◌, ◌*◌, ◌-◌, ◌<◌, ◌≤◌, ◌==◌, Bool, true, false, cond, List, [], ◌∷◌, ◌++◌, length, refl, sym, ap, ◌∙◌, subst, inl, inr, arith, length-append}
-use Rattle.std.specs.Prelude.{◌/◌, ◌⊎◌, ◌&&◌, ◌||◌, Some, None}
-use Rattle.std.specs.List.{fold, list_any, count_by, flat_map}
+use Rattle.std.proofs.Common.{◌≡◌, ℕ, zero, suc, ◌+◌, ◌≤◌, ◌==◌, Bool, true, false, cond, List, [], ◌∷◌, ◌++◌, length, refl, sym, ap, ◌∙◌, subst, inl, inr, arith, length-append}
+use Rattle.std.specs.Prelude.{◌/◌, ◌⊎◌, ◌&&◌, ◌||◌}
+use Rattle.std.specs.List.{fold, count_by}
 use mathlib.Core.Path.{fun_ext}
 use Rattle.std.proofs.lemmas.Bool.{cases_eq, cond-true, cond-false, eqb-true, eq-eqb, ne_eqb}
-use Rattle.std.proofs.lemmas.List.{append-nil}
 use Rattle.std.proofs.lemmas.List.Sums.{fold-append, sum_by_push}
 use Rattle.std.proofs.lemmas.List.Folds.{list_any-append}
 use Rattle.std.proofs.lemmas.List.Concat.{flat_map-append}
@@ -13,7 +12,7 @@ use Rattle.vk_types.specs.declared.batches.Batch.{Batch}
 use Rattle.submit_queue.specs.Histories as queue
 use Rattle.back_core.specs.declared.back_event.BackEvent.{BackEvent}
 use Rattle.back_core.specs.declared.back_event.BackEvent.TheVariants.{Created, Wrote, Enqueued, Submitted, Ran, Retired, Fetched, Gave, Abandoned, Cleaned, Closing, Stopped}
-use Rattle.back_core.specs.Link.{Link, put, created, wrote, enqueued, fetched, gave, abandoned}
+use Rattle.back_core.specs.Link.{Link, put, created}
 use Rattle.back_core.specs.History.{if_own, link_after, opening, own_part}
 use Rattle.back_core.specs.Run.{items_left, all_items_left, work_in}
 use Rattle.back_core.specs.declared.ending.Ending.TheVariants.{Running}
@@ -92,7 +91,7 @@ created_in : (l : Link) (list : List (ℕ × ℕ)) (group i : ℕ) (kind : Kind)
 created_in l list group i kind all =
     by_own (group == l.group) l (created l i kind) ((group, i) ∷ list) group refl refl
     (λ own id h. elim (cases_eq id i) [
-      inl same ↦ inl (subst (λ g. Names (group, i) g id) own (subst (λ k. Names (group, i) group k) (sym same) (names_self group i)))
+      | inl same ↦ inl (subst (λ g. Names (group, i) g id) own (subst (λ k. Names (group, i) group k) (sym same) (names_self group i)))
       | inr differs ↦ inr (all id (sym (put_else l.held i id true differs) ∙ h))
     ])
     (λ others id h. inr (all id h))
@@ -101,7 +100,7 @@ let_go_in : (l new : Link) (list : List (ℕ × ℕ)) (group i : ℕ) → new.gr
 let_go_in l new list group i same held all =
     by_own (group == l.group) l new (without list group i) group refl same
     (λ own id h. elim (cases_eq id i) [
-      inl here ↦ absurd (cc (h, ap (λ (f : ℕ → Bool). f id) held, put_here l.held i id false here))
+      | inl here ↦ absurd (cc (h, ap (λ (f : ℕ → Bool). f id) held, put_here l.held i id false here))
       | inr differs ↦ stays_in list group i l.group id (λ a b. differs (sym b)) (all id (sym (put_else l.held i id false differs) ∙ (sym (ap (λ (f : ℕ → Bool). f id) held) ∙ h)))
     ])
     (λ others id h. stays_in list group i l.group id (λ a b. others a) (all id h))
@@ -149,9 +148,9 @@ items_left_few : (ran : ℕ → Bool) (count : ℕ) → items_left ran count ≤
 items_left_few ran zero = omega arith
 items_left_few ran (suc count) = items_left_few_at (ran count) (items_left ran count) count (items_left_few ran count)
   where
-  items_left_few_at : (b : Bool) (n count : ℕ) → n ≤ count → cond b 0 1 + n ≤ suc count
-  items_left_few_at true n count le = omega arith
-  items_left_few_at false n count le = omega arith
+    items_left_few_at : (b : Bool) (n count : ℕ) → n ≤ count → cond b 0 1 + n ≤ suc count
+    items_left_few_at true n count le = omega arith
+    items_left_few_at false n count le = omega arith
 
 -- a batch is pushed: its items are left, and those of the others as before
 pushed_items : (ran ran' : ℕ → ℕ → Bool) (place : ℕ) (batches : List Batch) (batch : Batch) → ran' ≡ ran
@@ -178,7 +177,7 @@ work_pushed h batch =
     let items = pushed_items (queue.has_run h) (queue.has_run (h ++ queue.Pushed batch ∷ [])) 0 (queue.batches h) batch ran in
     rw (batches, accepted, retired) (omega (arith, items, length-append (queue.batches h) (batch ∷ [])))
   where
-  count-pushed : (p : queue.Event → Bool) (h : List queue.Event) (batch : Batch) → p (queue.Pushed batch) ≡ false → count_by p (h ++ queue.Pushed batch ∷ []) ≡ count_by p h
-  count-pushed p h batch e =
-      let all : count_by p (h ++ queue.Pushed batch ∷ []) ≡ count_by p h + cond (p (queue.Pushed batch)) 1 0 = sum_by_push (λ x. cond (p x) 1 0) h (queue.Pushed batch) in
-      all ∙ plus-none (count_by p h) _ (ap (λ b. cond b 1 0) e)
+    count-pushed : (p : queue.Event → Bool) (h : List queue.Event) (batch : Batch) → p (queue.Pushed batch) ≡ false → count_by p (h ++ queue.Pushed batch ∷ []) ≡ count_by p h
+    count-pushed p h batch e =
+        let all : count_by p (h ++ queue.Pushed batch ∷ []) ≡ count_by p h + cond (p (queue.Pushed batch)) 1 0 = sum_by_push (λ x. cond (p x) 1 0) h (queue.Pushed batch) in
+        all ∙ plus-none (count_by p h) _ (ap (λ b. cond b 1 0) e)

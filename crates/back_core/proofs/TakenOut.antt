@@ -1,7 +1,7 @@
 -- Taking covered garbage out of its list, one entry after the other.
-use Rattle.std.proofs.Common.{◌≡◌, ℕ, zero, suc, ◌+◌, ◌-◌, ◌<◌, ◌≤◌, Bool, true, false, cond, List, [], ◌∷◌, ◌++◌, length, get_or, take, drop, refl, sym, ap, ◌∙◌, subst, inl, inr, add-one, arith}
-use Rattle.std.specs.Prelude.{Some, None, IsSome, slice_get, slice_index_or, map}
-use Rattle.std.specs.List.{filter, insert}
+use Rattle.std.proofs.Common.{◌≡◌, ℕ, zero, suc, ◌+◌, ◌<◌, ◌≤◌, Bool, true, false, cond, List, [], ◌∷◌, ◌++◌, length, get_or, take, drop, refl, sym, ap, ◌∙◌, subst, inl, inr, add-one, arith}
+use Rattle.std.specs.Prelude.{Some, None, IsSome, slice_get, slice_index_or}
+use Rattle.std.specs.List.{insert}
 use Rattle.std.proofs.lemmas.List.{append-nil, append_assoc, map-append}
 use Rattle.std.proofs.lemmas.Bool.{cases_order}
 use Rattle.vk_types.specs.declared.stops.Stop.{Stop}
@@ -54,9 +54,9 @@ insert_before (x ∷ new) (suc place) item (suc k) d lt within = insert_before n
 pub kept_before : (read : List ℕ) (old new : List Garbage) (from place : ℕ) (item : Garbage) → TakesOut old new from read place item → AreKept read old 0 from → AreKept read new 0 place
 kept_before read old new from place item out kept k d low lt =
     elim (cases_order k from) [
-      inl same ↦ out.first k d (omega (arith, same)) lt
-    | inr (inl before) ↦ rw (← insert_before new place item k d lt out.within, ← out.taken) (kept k d low before)
-    | inr (inr after) ↦ out.first k d (omega (arith, after)) lt
+      | inl same ↦ out.first k d (omega (arith, same)) lt
+      | inr (inl before) ↦ rw (← insert_before new place item k d lt out.within, ← out.taken) (kept k d low before)
+      | inr (inr after) ↦ out.first k d (omega (arith, after)) lt
     ]
 
 -- the first covered entry is taken out
@@ -106,9 +106,9 @@ pub length-covered : (read : List ℕ) (list : List Garbage) → length (covered
 length-covered read [] = omega arith
 length-covered read (x ∷ list) = length-covered_at (is_covered read x) x _ _ (length-covered read list)
   where
-  length-covered_at : (b : Bool) (x : Garbage) (l list : List Garbage) → length l ≤ length list → length (cond b (x ∷ l) l) ≤ suc (length list)
-  length-covered_at true x l list le = omega arith
-  length-covered_at false x l list le = omega arith
+    length-covered_at : (b : Bool) (x : Garbage) (l list : List Garbage) → length l ≤ length list → length (cond b (x ∷ l) l) ≤ suc (length list)
+    length-covered_at true x l list le = omega arith
+    length-covered_at false x l list le = omega arith
 
 -- A cleanup on its way
 
@@ -140,7 +140,7 @@ module _ (before now : List Logged) (old cur new : List Garbage) (read : List �
         ∙ (ap (λ l. l ++ destroys (item ∷ [])) cleaning.destroyed
         ∙ (append_assoc before (destroys (take count (covered_of read old))) (destroys (item ∷ []))
         ∙ ap (λ l. before ++ l) (sym (map-append (λ (i : Garbage). logged.Destroyed i.handle) (take count (covered_of read old)) (item ∷ []))
-            ∙ ap destroys (sym (take_then (covered_of read old) (covered_of read new) count item (cleaning_head place item out)) ∙ ap (λ n. take n (covered_of read old)) (sym (add-one count))))));
+        ∙ ap destroys (sym (take_then (covered_of read old) (covered_of read new) count item (cleaning_head place item out)) ∙ ap (λ n. take n (covered_of read old)) (sym (add-one count))))));
     left = cleaning_left place item out;
     few = let l = inside_drop (covered_of read old) (covered_of read new) count item (cleaning_head place item out) in omega arith;
     kept = kept_before read cur new from place item out cleaning.kept;
@@ -157,9 +157,9 @@ module _ (before now : List Logged) (old cur new : List Garbage) (read : List �
   pub cleaning_ends : new ≡ cur → AreKept read cur from (length cur) → Destroys before now old new read count None
   cleaning_ends same rest =
       let kept : AreKept read cur 0 (length cur) = λ k d low lt. elim (cases_order k from) [
-        inl e ↦ rest k d (omega (arith, e)) lt
-      | inr (inl l) ↦ cleaning.kept k d low l
-      | inr (inr l) ↦ rest k d (omega (arith, l)) lt
+        | inl e ↦ rest k d (omega (arith, e)) lt
+        | inr (inl l) ↦ cleaning.kept k d low l
+        | inr (inr l) ↦ rest k d (omega (arith, l)) lt
       ] in
       let none = takes_none read cur kept in
       record {
@@ -179,10 +179,10 @@ module _ (before now : List Logged) (old cur new : List Garbage) (read : List �
 pub shorter : (old new : List Garbage) (from : ℕ) (read : List ℕ) (place : ℕ) (item : Garbage) → TakesOut old new from read place item → length old ≡ length new + 1
 shorter old new from read place item out = ap length out.taken ∙ length_insert new place item out.within
   where
-  length_insert : (new : List Garbage) (place : ℕ) (item : Garbage) → place ≤ length new → length (insert new place item) ≡ length new + 1
-  length_insert new zero item le = omega arith
-  length_insert [] (suc place) item le = absurd (omega (arith, le))
-  length_insert (x ∷ new) (suc place) item le = let l = length_insert new place item (omega (arith, le)) in omega arith
+    length_insert : (new : List Garbage) (place : ℕ) (item : Garbage) → place ≤ length new → length (insert new place item) ≡ length new + 1
+    length_insert new zero item le = omega arith
+    length_insert [] (suc place) item le = absurd (omega (arith, le))
+    length_insert (x ∷ new) (suc place) item le = let l = length_insert new place item (omega (arith, le)) in omega arith
 
 -- where there is a covered entry, one is taken out at least
 less_at : (b : Bool) (x : Garbage) (here later list covered : List Garbage) → length here ≤ length list → (0 < length covered → length later < length list) → 0 < length (cond b (x ∷ covered) covered) → length (cond b here (x ∷ later)) < suc (length list)
@@ -219,13 +219,6 @@ pub place_in : {X : Type 0} (list : List X) (k : ℕ) (x : X) → k < length lis
 place_in [] k x lt e = absurd (omega (arith, lt))
 place_in (y ∷ list) zero x lt e = ap Some e
 place_in (y ∷ list) (suc k) x lt e = place_in list k x (omega (arith, lt)) e
-
-pub take_whole : {X : Type 0} (list : List X) (n : ℕ) → n ≡ length list → take n list ≡ list
-take_whole list n e = ap (λ k. take k list) e ∙ all list
-  where
-  all : {X : Type 0} (list : List X) → take (length list) list ≡ list
-  all [] = refl
-  all (x ∷ list) = ap (λ l. x ∷ l) (all list)
 
 -- what is garbage and covered can be destroyed in order, as laws tell it
 pub can_destroy : (h : List BackEvent) (journal : List Logged) (read : List ℕ) (items : List Garbage)

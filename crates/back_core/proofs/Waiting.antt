@@ -1,11 +1,10 @@
 -- What is learned while a batch is waited for.
-use Rattle.std.proofs.Common.{◌≡◌, ℕ, ◌<◌, ◌≤◌, Bool, true, false, cond, List, [], ◌∷◌, ◌++◌, length, refl, sym, ap, ◌∙◌, subst, arith}
-use Rattle.std.specs.Prelude.{All, Option, Some, None, ◌/◌}
+use Rattle.std.proofs.Common.{◌≡◌, ℕ, ◌<◌, ◌≤◌, Bool, true, false, cond, List, [], ◌∷◌, ◌++◌, refl, sym, ap, ◌∙◌, subst, arith}
+use Rattle.std.specs.Prelude.{Option, Some, None, ◌/◌}
 use Rattle.std.proofs.lemmas.List.{append-nil, append_assoc}
 use Rattle.std.proofs.lemmas.List.Elements.{All-push}
 use Rattle.vk_types.specs.declared.stops.Stop.{Stop}
 use Rattle.vk_types.specs.declared.batches.QueueSerial.{QueueSerial}
-use Rattle.vk_device.specs.declared.logged.Turned.{Turned}
 use Rattle.vk_device.specs.declared.logged.Turned.TheVariants as turned
 use Rattle.vk_device.specs.Order.{AllRan}
 use Rattle.submit_queue.specs.Histories as queue
@@ -20,7 +19,7 @@ use Rattle.back_core.specs.Answers.{NowRises, AskedRises, Learns}
 use Rattle.back_core.specs.History.{queue_history, completed, link_of, IsOfOthers}
 use Rattle.back_core.specs.Run.{journal_of, IsRun, IsProgress, MayHappen, work_left}
 use Rattle.back_core.specs.Back.{ending_of, is_stopped, stopped_by}
-use Rattle.back_core.specs.Steps.{Submits, Turns, RetiresOne, IsIdle, MakesOne, Proceeds, HasGoneOn, HasStopped}
+use Rattle.back_core.specs.Steps.{Submits, Turns, RetiresOne, MakesOne, Proceeds, HasGoneOn}
 use Rattle.back_core.proofs.Calls.{MakesLess}
 
 -- Learning

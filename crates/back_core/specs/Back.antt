@@ -1,6 +1,5 @@
 -- What a back keeps.
 use Rattle.std.specs.Prelude.{◌≡◌, ℕ, ◌+◌, ◌*◌, ◌≤◌, ◌==◌, ◌&&◌, Bool, true, false, List, [], ◌∷◌, ◌++◌, length, fold, if◌then◌else◌}
-use Rattle.vk_types.specs.declared.batches.QueueSerial.{QueueSerial}
 use Rattle.vk_types.specs.declared.stops.Stop.{Stop}
 use Rattle.vk_device.specs.declared.logged.Logged.{Logged}
 use Rattle.vk_device.specs.Running.{IsInOrder}

@@ -1,5 +1,5 @@
 -- What a cleanup does to a device and its garbage.
-use Rattle.std.specs.Prelude.{◌≡◌, ℕ, ◌+◌, ◌<◌, ◌≤◌, List, ◌++◌, length, take, slice_get, Option, Some, None, IsSome}
+use Rattle.std.specs.Prelude.{◌≡◌, ℕ, ◌+◌, ◌<◌, List, ◌++◌, length, take, slice_get, Option, Some, None, IsSome}
 use Rattle.std.specs.List.{filter}
 use Rattle.vk_types.specs.declared.stops.Stop.{Stop}
 use Rattle.vk_model.specs.Meaning.{IsSettled}

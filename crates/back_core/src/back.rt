@@ -104,7 +104,8 @@ impl<D: Device> Back<D> {
     {
         runs_go_on();
         if let Ending::Running = self.ending {
-            self.history.push_reserved(Stored::Event(BackEvent::Closing));
+            self.history
+                .push_reserved(Stored::Event(BackEvent::Closing));
             self.promised -= 1;
             self.ending = Ending::Closing;
         }

@@ -47,12 +47,11 @@ impl<D: Device> Back<D> {
         self.history.reserve(self.promised + 3)?;
         self.garbage.reserve_one()?;
         let handle = self.device.create(kind)?;
-        self.history
-            .push_reserved(Stored::Event(BackEvent::Created {
-                group,
-                id: handle.id(),
-                kind,
-            }));
+        self.history.push_reserved(Stored::Event(BackEvent::Created {
+            group,
+            id: handle.id(),
+            kind,
+        }));
         self.promised += 2;
         Ok(handle)
     }
@@ -140,13 +139,7 @@ impl<D: Device> Back<D> {
         self.ended(answer)
     }
 
-    fn try_read(
-        &mut self,
-        group: u8,
-        id: HandleId,
-        at: u64,
-        out: &mut [u8],
-    ) -> Result<(), Stop>
+    fn try_read(&mut self, group: u8, id: HandleId, at: u64, out: &mut [u8]) -> Result<(), Stop>
         requires may { HostMay (link_of self.old.history group) id.0 at (length out.old) }
         requires readable { IsReadable (log_of (link_of self.old.history group).mine) id.0 at (length out.old) }
         ensures ok { OnOk result (self.new.history ≡ self.old.history ++ Fetched group id at out.new ∷ []) }
@@ -162,13 +155,12 @@ impl<D: Device> Back<D> {
         self.history.reserve(self.promised + 1)?;
         self.device.read_host(id, at, out)?;
         copy.overwrite(0, out);
-        self.history
-            .push_reserved(Stored::Event(BackEvent::Fetched {
-                group,
-                id,
-                at,
-                bytes: copy,
-            }));
+        self.history.push_reserved(Stored::Event(BackEvent::Fetched {
+            group,
+            id,
+            at,
+            bytes: copy,
+        }));
         Ok(())
     }
 

@@ -52,11 +52,10 @@ impl<D: Device> Back<D> {
         if done.is_nothing() {
             return done;
         }
-        self.history
-            .push_reserved(Stored::Event(BackEvent::Cleaned {
-                read: *read,
-                destroyed: done.count,
-            }));
+        self.history.push_reserved(Stored::Event(BackEvent::Cleaned {
+            read: *read,
+            destroyed: done.count,
+        }));
         self.promised -= 1;
         done
     }

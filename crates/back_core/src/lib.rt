@@ -3,6 +3,11 @@
 //! A share group reaches the device by a [`BackLink`] alone. What it sees there is one record, `Link` of
 //! `specs/Link.antt`, and each call is a function on that record. `specs/History.antt` has the record as a function of
 //! what happened to the back.
+//!
+//! A [`Back`] holds the device, the batches on their way and the garbage, and stores what happened as a history of
+//! [`BackEvent`]s. `specs/Run.antt` says which events may come next, and what the device's journal and the garbage are
+//! after them; `specs/Back.antt` says what a back keeps of that. [`Direct`] is the link of a group to a back that it
+//! reaches on its own thread.
 #![tactic(auto)]
 
 mod back;

@@ -85,11 +85,11 @@ used_at : (s : Link) (id : ℕ) → s.group ≡ 0 → s.mine ≡ [] → s.held i
 used_at s id group none held serial index number = record {
   held = held;
   exact = λ i. elim (cases_eq serial.index i) [
-    inl same ↦ inr (
+    | inl same ↦ inr (
       (rw group (omega (arith, index, same)), rw group (omega (arith, index, same))),
       cond-true (serial.index == i) serial.number 0 (eq-eqb serial.index i same) ∙ (number ∙ ap (λ m. next_number m i) (sym none)),
     )
-  | inr other ↦ inl (cond-false (serial.index == i) serial.number 0 (ne_eqb serial.index i other) ∙ ap (λ m. Rattle.back_core.specs.Own.last_use m i id) (sym none))
+    | inr other ↦ inl (cond-false (serial.index == i) serial.number 0 (ne_eqb serial.index i other) ∙ ap (λ m. Rattle.back_core.specs.Own.last_use m i id) (sym none))
   ];
 }
 
@@ -106,7 +106,7 @@ may_second s s1 a b c uses serial has e is index number =
 pub may_third : (s s1 s2 : Link) (a b c : ℕ) (uses none : List QueueSerial) → HasThree s a b c → s1 ≡ gave s a [] → s2 ≡ gave s1 b uses → none ≡ [] → MayGive s2 c none
 may_third s s1 s2 a b c uses none has e1 e2 is =
     subst (λ l. MayGive s2 c l) (sym is) (unused_at s2 c (ap (λ (l : Link). l.mine) e2 ∙ (ap (λ (l : Link). l.mine) e1 ∙ has.unused))
-      (gave_held s1 s2 b c uses e2 (λ same. has.apart.2 (sym same)) (gave_held s s1 a c [] e1 (λ same. has.apart.1 (sym same)) has.third_held)))
+    (gave_held s1 s2 b c uses e2 (λ same. has.apart.2 (sym same)) (gave_held s s1 a c [] e1 (λ same. has.apart.1 (sym same)) has.third_held)))
 
 -- The copy
 
@@ -117,9 +117,9 @@ copy_log src dst bytes = HostWrite src.0 0 bytes ∷ Command 0 (copy src dst) �
 copy_waits : (src dst : HandleId) → Rattle.vk_model.specs.Log.item_edge (Command 0 (copy src dst)) (Command 0 (hand_over dst)) ≡ true
 copy_waits src dst = waits_at (src.0 == dst.0) (dst.0 == dst.0) (eq-eqb dst.0 dst.0 refl)
   where
-  waits_at : (b c : Bool) → c ≡ true → (((b && false) || ((c && true) || false)) || false || false) ≡ true
-  waits_at true c e = rw e refl
-  waits_at false c e = rw e refl
+    waits_at : (b c : Bool) → c ≡ true → (((b && false) || ((c && true) || false)) || false || false) ≡ true
+    waits_at true c e = rw e refl
+    waits_at false c e = rw e refl
 
 copy_ordered : (src dst : HandleId) (bytes : List ℕ) (j k p q : ℕ) (a b : Node) → j < k → slice_get (copy_log src dst bytes) j ≡ Some (Command p a) → slice_get (copy_log src dst bytes) k ≡ Some (Command q b) → Reaches (copy_log src dst bytes) j k
 copy_ordered src dst bytes zero k p q a b lt at at' = absurd (cc at)
@@ -181,27 +181,27 @@ copy_may s new src dst bytes b has e one_queue index number nodes =
       touched = λ id t. inl (ap (λ (l : Link). l.held id) e ∙ copy_touches s src dst id has (sym (ap (λ ns. list_any (λ n. touches_object n id) ns) nodes) ∙ t));
     }
   where
-  touched_at : (s : Link) (src dst id : ℕ) → s.held src ≡ true → s.held dst ≡ true → (b c : Bool) → (src == id) ≡ b → (dst == id) ≡ c → ((b || (c || false)) || ((c || false) || false)) ≡ true → s.held id ≡ true
-  touched_at s src dst id h h' true c e e' t = subst (λ i. s.held i ≡ true) (eqb-true src id e) h
-  touched_at s src dst id h h' false true e e' t = subst (λ i. s.held i ≡ true) (eqb-true dst id e') h'
-  touched_at s src dst id h h' false false e e' t = absurd (cc t)
+    touched_at : (s : Link) (src dst id : ℕ) → s.held src ≡ true → s.held dst ≡ true → (b c : Bool) → (src == id) ≡ b → (dst == id) ≡ c → ((b || (c || false)) || ((c || false) || false)) ≡ true → s.held id ≡ true
+    touched_at s src dst id h h' true c e e' t = subst (λ i. s.held i ≡ true) (eqb-true src id e) h
+    touched_at s src dst id h h' false true e e' t = subst (λ i. s.held i ≡ true) (eqb-true dst id e') h'
+    touched_at s src dst id h h' false false e e' t = absurd (cc t)
 
-  copy_touches : (s : Link) (src dst : HandleId) (id : ℕ) → HasTwo s src.0 dst.0 → list_any (λ n. touches_object n id) (copy_nodes src dst) ≡ true → s.held id ≡ true
-  copy_touches s src dst id has t = touched_at s src.0 dst.0 id has.src_held has.dst_held (src.0 == id) (dst.0 == id) refl refl t
+    copy_touches : (s : Link) (src dst : HandleId) (id : ℕ) → HasTwo s src.0 dst.0 → list_any (λ n. touches_object n id) (copy_nodes src dst) ≡ true → s.held id ≡ true
+    copy_touches s src dst id has t = touched_at s src.0 dst.0 id has.src_held has.dst_held (src.0 == id) (dst.0 == id) refl refl t
 
 pub copy_readable : (s s1 s2 s3 : Link) (src dst : HandleId) (bytes : List ℕ) (b : Batch) (size index number : ℕ) → HasTwo s src.0 dst.0 → s1 ≡ wrote s src.0 0 bytes → s2 ≡ enqueued s1 b → Waits s2 s3 index number → b.nodes ≡ copy_nodes src dst → IsReadable (log_of s3.mine) dst.0 0 size
 copy_readable s s1 s2 s3 src dst bytes b size index number has e1 e2 waited nodes =
     let mine : s3.mine ≡ HostWrote src.0 0 bytes ∷ Enqueued b ∷ [] = ap (λ (l : Link). l.mine) waited.learns.rest ∙ (ap (λ (l : Link). l.mine) e2 ∙ (ap (λ (l : Link). l.mine ++ Enqueued b ∷ []) e1 ∙ ap (λ m. (m ++ HostWrote src.0 0 bytes ∷ []) ++ Enqueued b ∷ []) has.unused)) in
     subst (λ m. IsReadable (log_of m) dst.0 0 size) (sym mine) (subst (λ ns. IsReadable (HostWrite src.0 0 bytes ∷ (commands 0 ns ++ [])) dst.0 0 size) (sym nodes) (readable src dst bytes size))
   where
-  readable : (src dst : HandleId) (bytes : List ℕ) (size : ℕ) → IsReadable (copy_log src dst bytes) dst.0 0 size
-  readable src dst bytes size zero q n at none w = absurd (cc at)
-  readable src dst bytes size (suc zero) q n at none w = record { later = 2; queue = 0; node = hand_over dst; barrier = _; behind = omega arith; at = refl; is = refl; of_object = refl; to_host = refl }
-  readable src dst bytes size (suc (suc zero)) q n at none w = absurd (handed_over n (cc at) none)
-    where
-    handed_over : (n : Node) → hand_over dst ≡ n → Rattle.vk_types.specs.Touches.barrier_of n ≡ None → ⊥
-    handed_over n e none = cc (ap Rattle.vk_types.specs.Touches.barrier_of e ∙ none)
-  readable src dst bytes size (suc (suc (suc k))) q n at none w = absurd (cc at)
+    readable : (src dst : HandleId) (bytes : List ℕ) (size : ℕ) → IsReadable (copy_log src dst bytes) dst.0 0 size
+    readable src dst bytes size zero q n at none w = absurd (cc at)
+    readable src dst bytes size (suc zero) q n at none w = record { later = 2; queue = 0; node = hand_over dst; barrier = _; behind = omega arith; at = refl; is = refl; of_object = refl; to_host = refl }
+    readable src dst bytes size (suc (suc zero)) q n at none w = absurd (handed_over n (cc at) none)
+      where
+        handed_over : (n : Node) → hand_over dst ≡ n → Rattle.vk_types.specs.Touches.barrier_of n ≡ None → ⊥
+        handed_over n e none = cc (ap Rattle.vk_types.specs.Touches.barrier_of e ∙ none)
+    readable src dst bytes size (suc (suc (suc k))) q n at none w = absurd (cc at)
 
 -- a list of zeros
 pub zeros : (n index : ℕ) → slice_index (replicate n 0) index ≡ 0

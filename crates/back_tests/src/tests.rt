@@ -72,12 +72,34 @@ fn batches_are_submitted_and_retired_in_order(rt: HostRuntime) -> Result<(), Fai
         Err(_) => return Err(Fail::from("no memory")),
     };
     assert_eq!(rt; done.enqueued, Ok(()));
-    assert_eq!(rt; done.left, Left { flushed: true, nodes: false, batches: true, garbage: false });
-    assert_eq!(rt; done.steps, [Ok(Step::Done), Ok(Step::Done), Ok(Step::Done), Ok(Step::Nothing)]);
+    assert_eq!(rt;
+        done.left,
+        Left {
+            flushed: true,
+            nodes: false,
+            batches: true,
+            garbage: false
+        }
+    );
+    assert_eq!(rt;
+        done.steps,
+        [
+            Ok(Step::Done),
+            Ok(Step::Done),
+            Ok(Step::Done),
+            Ok(Step::Nothing)
+        ]
+    );
     assert_eq!(rt; done.turned, Ok(Turned::Idle));
-    assert_eq!(rt; done.retired, [serial(0, 1), serial(1, 1), serial(0, 2), None]);
+    assert_eq!(rt;
+        done.retired,
+        [serial(0, 1), serial(1, 1), serial(0, 2), None]
+    );
     assert_eq!(rt; done.completed, [2, 1]);
-    assert_eq!(rt; done.endings, [Ending::Closing, Ending::Stopped(Stop::Memory)]);
+    assert_eq!(rt;
+        done.endings,
+        [Ending::Closing, Ending::Stopped(Stop::Memory)]
+    );
     assert_eq!(rt; done.device.journal().len(), 3);
     Ok(())
 }

@@ -1,4 +1,4 @@
-use Rattle.std.proofs.Common.{arith, length, Some, sym, subst}
+use Rattle.std.proofs.Common.{arith, Some, sym, subst}
 use Rattle.garbage.specs.Collecting.{TakesOut}
 use Rattle.back_core.specs.Cleaning.{covered_of, Destroys}
 use Rattle.back_core.proofs.TakenOut.{cleaning_head, cleaning_next, cleaning_stops, cleaning_ends, cleaning_live, cleaning_settled, inside_drop, length-covered}
@@ -29,7 +29,7 @@ returns-in-Err-clause-destroys g c =
     let l = c.loop-place in
     let out : TakesOut l.garbage.items c.take_covered.new.self.items l.from c.args.read.now c.in-Some.place c.in-Some.item = c.in-Some.ensures.some in
     subst (λ j. Destroys (g.D.Device.journal c.args.device.now) j c.args.garbage.now.items c.take_covered.new.self.items c.args.read.now l.count (Some c.in-Err.stop)) (sym c.in-Err.ensures.err.logged)
-        (cleaning_stops (g.D.Device.journal c.args.device.now) (g.D.Device.journal l.device) c.args.garbage.now.items l.garbage.items c.take_covered.new.self.items c.args.read.now l.count l.from l.invariant.gone c.in-Some.place c.in-Some.item c.in-Err.stop out)
+    (cleaning_stops (g.D.Device.journal c.args.device.now) (g.D.Device.journal l.device) c.args.garbage.now.items l.garbage.items c.take_covered.new.self.items c.args.read.now l.count l.from l.invariant.gone c.in-Some.place c.in-Some.item c.in-Err.stop out)
 
 pub loop-place-preserved : goal.loop-place-preserved
 loop-place-preserved g c =

@@ -1,28 +1,16 @@
-use Rattle.std.proofs.Common.{◌≡◌, ℕ, ◌+◌, ◌-◌, ◌<◌, ◌≤◌, [], ◌∷◌, ◌++◌, true, false, length, refl, sym, ap, ◌∙◌, subst, arith, map, take, Some, None}
-use Rattle.std.specs.Prelude.{Ok, IfNone, All, ◌/◌}
-use Rattle.vk_model.specs.Fitting.{NodeFits}
-use Rattle.vk_device.specs.declared.logged.Turned.TheVariants as turned
-use Rattle.vk_device.specs.Journal.{kind_of, accepted, node_at, creates}
-use Rattle.vk_device.specs.Order.{log_of, order_of, place_of, FindItsLayouts, AllRan}
-use Rattle.vk_device.specs.Effects.{HasTurned, Executes}
-use Rattle.submit_queue.specs.Histories as queue
-use Rattle.back_core.specs.declared.back_event.BackEvent.TheVariants.{Created, Wrote, Enqueued, Submitted, Ran, Retired, Fetched, Gave, Abandoned, Cleaned}
+use Rattle.std.proofs.Common.{◌≡◌, ◌+◌, ◌-◌, ◌≤◌, ◌++◌, true, false, length, sym, ap, ◌∙◌, subst, arith, map, take}
+use Rattle.back_core.specs.declared.back_event.BackEvent.TheVariants.{Cleaned}
 use Rattle.back_core.specs.declared.stored.Stored.TheVariants as stored
-use Rattle.back_core.specs.History.{queue_history, link_of, own_part}
-use Rattle.back_core.specs.Needs.{HostMay, MayEnqueue, MayGive, IsFresh}
 use Rattle.back_core.specs.Run.{submission, journal_of, IsAcceptable, MayRetire}
 use Rattle.back_core.specs.Back.{BackModel, Holds, event_of}
-use Rattle.back_core.proofs.Holding.{GoesOn, at_end, at_end_then, is_end, is_end_then}
-use Rattle.back_core.proofs.Calls.{holds_created, holds_noted, holds_enqueued, progress_room, holds_progress, gave_room, holds_gave, abandoned_room, holds_abandoned, within}
+use Rattle.back_core.proofs.Holding.{GoesOn, at_end, is_end}
 use Rattle.std.specs.Prelude.{◌==◌, ◌&&◌, is_none}
-use Rattle.vk_device.specs.declared.logged.Logged.{Logged}
 use Rattle.back_core.specs.Run.{WereRead, without_covered, covered_in, garbage_of}
-use Rattle.back_core.specs.Steps.{CleansBy, IsForgotten}
 use Rattle.back_core.specs.Cleaning.{Destroys, CanDestroy}
 use Rattle.std.proofs.lemmas.Bool.{cond-true, cond-false}
 use Rattle.back_core.proofs.Calls.{holds_still, holds_cleaned, cleaned_room}
 use Rattle.back_core.proofs.TakenOut.{can_destroy, place_in}
-use Rattle.back_core.proofs.Cleans.{count_few, nothing_done, fewer_left, cleans_by, cleans_up, cleans_some}
+use Rattle.back_core.proofs.Cleans.{count_few, nothing_done, fewer_left, cleans_by}
 use Rattle.back_core.proofs.back.Back.clean.Goals as goal
 
 pub destroy_covered-done-requires-clause-can : goal.destroy_covered-done-requires-clause-can
@@ -42,8 +30,7 @@ invariant_of-self g c =
     let d = c.destroy_covered-done in
     let done = d.ensures.destroys in
     let nothing : ((d.result.count == 0) && is_none d.result.stop) ≡ true = sym c.is_nothing.ensures ∙ c.if-is_nothing.true in
-    let same = nothing_done (g.D.Device.journal b.device) (g.D.Device.journal d.new.device) b.garbage.items d.new.garbage.items c.args.read.now d.result.count d.result.stop done nothing in
-    (
+    let same = nothing_done (g.D.Device.journal b.device) (g.D.Device.journal d.new.device) b.garbage.items d.new.garbage.items c.args.read.now d.result.count d.result.stop done nothing in (
       holds_still h (g.D.Device.journal b.device) (g.D.Device.journal d.new.device) (g.D.Device.bytes_of b.device) (g.D.Device.bytes_of d.new.device) b.queue b.garbage d.new.garbage b.ending b.promised holds same.0 d.ensures.in_order (done.left ∙ same.1) d.ensures.room,
       c.self.invariant.1,
     )
@@ -94,10 +81,9 @@ invariant_of-self-2 g c =
     let fewer = fewer_left (g.D.Device.journal b.device) (g.D.Device.journal d.new.device) b.garbage.items d.new.garbage.items c.args.read.now d.result.count d.result.stop done nothing in
     let laws : GoesOn = record { goes_on = c.runs_go_on.ensures.goes_on; journal = c.runs_go_on.ensures.journal; garbage = c.runs_go_on.ensures.garbage } in
     let room = cleaned_room laws h (g.D.Device.journal b.device) (g.D.Device.journal b.device) (g.D.Device.bytes_of b.device) (g.D.Device.bytes_of b.device) b.queue b.garbage b.ending b.promised holds c.args.read.now d.result.count d.new.garbage fewer in
-    let few = count_few (g.D.Device.journal b.device) (g.D.Device.journal d.new.device) b.garbage.items d.new.garbage.items c.args.read.now d.result.count d.result.stop done in
-    (
+    let few = count_few (g.D.Device.journal b.device) (g.D.Device.journal d.new.device) b.garbage.items d.new.garbage.items c.args.read.now d.result.count d.result.stop done in (
       at_end (λ l. Holds l (g.D.Device.journal d.new.device) (g.D.Device.bytes_of d.new.device) b.queue d.new.garbage b.ending (b.promised - 1)) b.history.items c.push_reserved.new.self.items (stored.Event (Cleaned c.args.read.now d.result.count)) c.push_reserved.ensures.items
-        (holds_cleaned laws h (g.D.Device.journal b.device) (g.D.Device.journal d.new.device) (g.D.Device.bytes_of b.device) (g.D.Device.bytes_of d.new.device) b.queue b.garbage b.ending b.promised holds c.args.read.now d.result.count d.new.garbage were
+          (holds_cleaned laws h (g.D.Device.journal b.device) (g.D.Device.journal d.new.device) (g.D.Device.bytes_of b.device) (g.D.Device.bytes_of d.new.device) b.queue b.garbage b.ending b.promised holds c.args.read.now d.result.count d.new.garbage were
           (subst (λ l. d.result.count ≤ length (Rattle.back_core.specs.Cleaning.covered_of c.args.read.now l)) holds.waiting few)
           (done.destroyed ∙ ap (λ l. g.D.Device.journal b.device ++ Rattle.back_core.specs.Run.destroys (take d.result.count (Rattle.back_core.specs.Cleaning.covered_of c.args.read.now l))) holds.waiting)
           d.ensures.in_order done.left fewer d.ensures.room),
@@ -115,8 +101,8 @@ returns-clause-cleans g c =
     let fewer = fewer_left (g.D.Device.journal b.device) (g.D.Device.journal d.new.device) b.garbage.items d.new.garbage.items c.args.read.now d.result.count d.result.stop done nothing in
     let laws : GoesOn = record { goes_on = c.runs_go_on.ensures.goes_on; journal = c.runs_go_on.ensures.journal; garbage = c.runs_go_on.ensures.garbage } in
     rw (← c.self.view_is) (cleans_by g.D.Device.journal (record { device = b.device; history = h }) (record { device = d.new.device; history = map event_of c.push_reserved.new.self.items }) b.garbage.items d.new.garbage.items c.args.read.now d.result.count d.result.stop done holds.waiting
-      (done.left ∙ (ap (λ l. without_covered c.args.read.now (d.result.count + 1) l) holds.waiting ∙ (sym (laws.garbage h (Cleaned c.args.read.now d.result.count)) ∙ ap garbage_of (sym (is_end b.history.items c.push_reserved.new.self.items (stored.Event (Cleaned c.args.read.now d.result.count)) c.push_reserved.ensures.items)))))
-      (is_end b.history.items c.push_reserved.new.self.items (stored.Event (Cleaned c.args.read.now d.result.count)) c.push_reserved.ensures.items ∙ sym (cond-false _ h _ nothing)))
+    (done.left ∙ (ap (λ l. without_covered c.args.read.now (d.result.count + 1) l) holds.waiting ∙ (sym (laws.garbage h (Cleaned c.args.read.now d.result.count)) ∙ ap garbage_of (sym (is_end b.history.items c.push_reserved.new.self.items (stored.Event (Cleaned c.args.read.now d.result.count)) c.push_reserved.ensures.items)))))
+    (is_end b.history.items c.push_reserved.new.self.items (stored.Event (Cleaned c.args.read.now d.result.count)) c.push_reserved.ensures.items ∙ sym (cond-false _ h _ nothing)))
 
 pub returns-clause-forgotten : goal.returns-clause-forgotten
 returns-clause-forgotten g c =

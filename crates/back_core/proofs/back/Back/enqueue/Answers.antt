@@ -1,33 +1,14 @@
-use Rattle.std.proofs.Common.{◌≡◌, ℕ, ◌+◌, ◌-◌, ◌<◌, ◌≤◌, [], ◌∷◌, ◌++◌, true, false, length, refl, sym, ap, ◌∙◌, subst, arith, map, Some, None}
-use Rattle.std.specs.Prelude.{Ok, IfNone, All, ◌/◌}
-use Rattle.vk_model.specs.Fitting.{NodeFits}
-use Rattle.vk_device.specs.declared.logged.Turned.TheVariants as turned
-use Rattle.vk_device.specs.Journal.{kind_of, accepted, node_at, creates}
-use Rattle.vk_device.specs.Order.{log_of, order_of, place_of, FindItsLayouts, AllRan}
-use Rattle.vk_device.specs.Effects.{HasTurned, Executes}
+use Rattle.std.proofs.Common.{◌≡◌, ◌+◌, ◌<◌, length, refl, sym, ap, subst, arith, map}
+use Rattle.std.specs.Prelude.{◌/◌}
 use Rattle.submit_queue.specs.Histories as queue
-use Rattle.back_core.specs.declared.back_event.BackEvent.TheVariants.{Created, Wrote, Enqueued, Submitted, Ran, Retired, Fetched, Gave, Abandoned, Cleaned}
+use Rattle.back_core.specs.declared.back_event.BackEvent.TheVariants.{Enqueued}
 use Rattle.back_core.specs.declared.stored.Stored.TheVariants as stored
-use Rattle.back_core.specs.History.{queue_history, link_of, own_part}
-use Rattle.back_core.specs.Needs.{HostMay, MayEnqueue, MayGive, IsFresh}
-use Rattle.back_core.specs.Run.{submission, journal_of, IsAcceptable, MayRetire}
+use Rattle.back_core.specs.History.{queue_history, link_of}
+use Rattle.back_core.specs.Needs.{MayEnqueue}
 use Rattle.back_core.specs.Back.{BackModel, Holds, event_of}
-use Rattle.back_core.proofs.Holding.{GoesOn, at_end, at_end_then, is_end, is_end_then}
-use Rattle.back_core.proofs.Calls.{holds_created, holds_noted, holds_enqueued, progress_room, holds_progress, gave_room, holds_gave, abandoned_room, holds_abandoned, within}
-use Rattle.vk_types.specs.declared.handles.Kind.{Kind}
-use Rattle.back_core.specs.declared.back_event.BackEvent.{BackEvent}
-use Rattle.vk_device.specs.declared.logged.Logged.{Logged}
-use Rattle.std.specs.Prelude.{List}
-use Rattle.cells.specs.Contents.{Agrees, cells}
-use Rattle.vk_device.specs.Order.{IsVisible}
-use Rattle.vk_device.specs.Running.{IsInOrder}
-use Rattle.vk_model.specs.Meaning.{IsSettled}
-use Rattle.vk_device.specs.Journal.{ReachesTo}
-use Rattle.back_core.specs.Run.{IsLeftAlone}
-use Rattle.back_core.specs.Own.{log_of as own_log, IsReadable}
-use Rattle.back_core.specs.Link.{contents_of}
-use Rattle.std.proofs.lemmas.List.{length-replicate}
-use Rattle.back_core.proofs.Numbers.{numbers_few, batches_few, overwritten-all}
+use Rattle.back_core.proofs.Holding.{GoesOn, at_end_then, is_end_then}
+use Rattle.back_core.proofs.Calls.{holds_enqueued}
+use Rattle.back_core.proofs.Numbers.{numbers_few, batches_few}
 use Rattle.back_core.proofs.back.Back.enqueue.Goals as goal
 
 pub invariant_of-self-2 : goal.invariant_of-self-2
@@ -41,10 +22,9 @@ invariant_of-self-2 g c =
     let laws : GoesOn = record { goes_on = c.runs_go_on.ensures.goes_on; journal = c.runs_go_on.ensures.journal; garbage = c.runs_go_on.ensures.garbage } in
     let waits : length c.args.batch.waits ≡ 0 = ap length c.requires.one_queue.waits in
     let signals : length c.args.batch.signals ≡ 0 = ap length c.requires.one_queue.signals in
-    let nodes : length c.as_slice.result.now ≡ length c.args.batch.nodes = ap length c.as_slice.ensures in
-    (
+    let nodes : length c.as_slice.result.now ≡ length c.args.batch.nodes = ap length c.as_slice.ensures in (
       at_end_then (λ l. Holds l (g.D.Device.journal b.device) (g.D.Device.bytes_of b.device) c.push.new.self b.garbage b.ending (b.promised + (length c.as_slice.result.now + 2))) b.history.items c.reserve.new.self.items c.push_reserved.new.self.items (stored.Event (Enqueued c.in-Ok.copy)) c.push_reserved.ensures.items c.reserve.ensures.items
-        (rw c.in-Ok.ensures (holds_enqueued laws h (g.D.Device.journal b.device) (g.D.Device.journal b.device) (g.D.Device.bytes_of b.device) (g.D.Device.bytes_of b.device) b.queue b.garbage b.ending b.promised holds c.args.batch c.push.new.self (length c.as_slice.result.now + 2) index may
+          (rw c.in-Ok.ensures (holds_enqueued laws h (g.D.Device.journal b.device) (g.D.Device.journal b.device) (g.D.Device.bytes_of b.device) (g.D.Device.bytes_of b.device) b.queue b.garbage b.ending b.promised holds c.args.batch c.push.new.self (length c.as_slice.result.now + 2) index may
           (c.in-Ok-push.ensures.ok (queue_history h) holds.kept push) (omega arith) refl holds.in_order)),
       omega (arith, c.self.invariant.1, c.push_reserved.ensures.len, c.push_reserved.ensures.capacity, c.in-Ok-reserve.ensures.ok, c.reserve.ensures.len),
     )

@@ -1,19 +1,8 @@
-use Rattle.std.proofs.Common.{◌≡◌, ℕ, ◌+◌, ◌-◌, ◌<◌, ◌≤◌, [], ◌∷◌, ◌++◌, true, false, length, refl, sym, ap, ◌∙◌, subst, arith, map, Some, None}
-use Rattle.std.specs.Prelude.{Ok, IfNone, All, ◌/◌}
-use Rattle.vk_model.specs.Fitting.{NodeFits}
+use Rattle.std.proofs.Common.{◌≡◌, ap, ◌∙◌, subst}
 use Rattle.vk_device.specs.declared.logged.Turned.TheVariants as turned
-use Rattle.vk_device.specs.Journal.{kind_of, accepted, node_at, creates}
-use Rattle.vk_device.specs.Order.{log_of, order_of, place_of, FindItsLayouts, AllRan}
-use Rattle.vk_device.specs.Effects.{HasTurned, Executes}
-use Rattle.submit_queue.specs.Histories as queue
-use Rattle.back_core.specs.declared.back_event.BackEvent.TheVariants.{Created, Wrote, Enqueued, Submitted, Ran, Retired, Fetched, Gave, Abandoned, Cleaned}
-use Rattle.back_core.specs.declared.stored.Stored.TheVariants as stored
-use Rattle.back_core.specs.History.{queue_history, link_of, own_part}
-use Rattle.back_core.specs.Needs.{HostMay, MayEnqueue, MayGive, IsFresh}
-use Rattle.back_core.specs.Run.{submission, journal_of, IsAcceptable, MayRetire}
-use Rattle.back_core.specs.Back.{BackModel, Holds, event_of}
-use Rattle.back_core.proofs.Holding.{GoesOn, at_end, at_end_then, is_end, is_end_then}
-use Rattle.back_core.proofs.Calls.{holds_created, holds_noted, holds_enqueued, progress_room, holds_progress, gave_room, holds_gave, abandoned_room, holds_abandoned, within}
+use Rattle.vk_device.specs.Order.{AllRan}
+use Rattle.back_core.specs.Run.{journal_of}
+use Rattle.back_core.specs.Back.{BackModel}
 use Rattle.back_core.specs.Run.{IsRun}
 use Rattle.std.proofs.lemmas.Result.{IfOk-weaker}
 use Rattle.back_core.specs.Steps.{Turns}

@@ -1,19 +1,11 @@
-use Rattle.std.proofs.Common.{◌≡◌, ℕ, ◌+◌, ◌-◌, ◌<◌, ◌≤◌, [], ◌∷◌, ◌++◌, true, false, length, refl, sym, ap, ◌∙◌, subst, arith, map, Some, None}
-use Rattle.std.specs.Prelude.{Ok, IfNone, All, ◌/◌}
-use Rattle.vk_model.specs.Fitting.{NodeFits}
-use Rattle.vk_device.specs.declared.logged.Turned.TheVariants as turned
-use Rattle.vk_device.specs.Journal.{kind_of, accepted, node_at, creates}
-use Rattle.vk_device.specs.Order.{log_of, order_of, place_of, FindItsLayouts, AllRan}
-use Rattle.vk_device.specs.Effects.{HasTurned, Executes}
-use Rattle.submit_queue.specs.Histories as queue
-use Rattle.back_core.specs.declared.back_event.BackEvent.TheVariants.{Created, Wrote, Enqueued, Submitted, Ran, Retired, Fetched, Gave, Abandoned, Cleaned}
+use Rattle.std.proofs.Common.{◌-◌, refl, sym, arith, map}
+use Rattle.back_core.specs.declared.back_event.BackEvent.TheVariants.{Retired}
 use Rattle.back_core.specs.declared.stored.Stored.TheVariants as stored
-use Rattle.back_core.specs.History.{queue_history, link_of, own_part}
-use Rattle.back_core.specs.Needs.{HostMay, MayEnqueue, MayGive, IsFresh}
-use Rattle.back_core.specs.Run.{submission, journal_of, IsAcceptable, MayRetire}
-use Rattle.back_core.specs.Back.{BackModel, Holds, event_of}
-use Rattle.back_core.proofs.Holding.{GoesOn, at_end, at_end_then, is_end, is_end_then}
-use Rattle.back_core.proofs.Calls.{holds_created, holds_noted, holds_enqueued, progress_room, holds_progress, gave_room, holds_gave, abandoned_room, holds_abandoned, within}
+use Rattle.back_core.specs.History.{queue_history}
+use Rattle.back_core.specs.Run.{MayRetire}
+use Rattle.back_core.specs.Back.{Holds, event_of}
+use Rattle.back_core.proofs.Holding.{GoesOn, at_end, is_end}
+use Rattle.back_core.proofs.Calls.{progress_room, holds_progress}
 use Rattle.std.proofs.lemmas.List.{append-nil}
 use Rattle.back_core.proofs.back.Back.retire.Goals as goal
 
@@ -51,10 +43,9 @@ invariant_of-self-2 g c =
     let gone = c.in_ok-index.ensures.some (queue_history h) holds.kept in
     let may : MayRetire h c.in_ok-index.field-0 = record { place = gone.place; can = gone.can; index = gone.index; number = gone.number } in
     let laws : GoesOn = record { goes_on = c.runs_go_on.ensures.goes_on; journal = c.runs_go_on.ensures.journal; garbage = c.runs_go_on.ensures.garbage } in
-    let room = progress_room laws h (g.D.Device.journal b.device) (g.D.Device.journal b.device) (g.D.Device.bytes_of b.device) (g.D.Device.bytes_of b.device) b.queue b.garbage b.ending b.promised holds c.runs_meet_the_device.ensures.less (Retired c.in_ok-index.field-0) may tt in
-    (
+    let room = progress_room laws h (g.D.Device.journal b.device) (g.D.Device.journal b.device) (g.D.Device.bytes_of b.device) (g.D.Device.bytes_of b.device) b.queue b.garbage b.ending b.promised holds c.runs_meet_the_device.ensures.less (Retired c.in_ok-index.field-0) may tt in (
       at_end (λ l. Holds l (g.D.Device.journal b.device) (g.D.Device.bytes_of b.device) c.retire.new.self b.garbage b.ending (b.promised - 1)) b.history.items c.push_reserved.new.self.items (stored.Event (Retired c.in_ok-index.field-0)) c.push_reserved.ensures.items
-        (holds_progress laws h (g.D.Device.journal b.device) (g.D.Device.journal b.device) (g.D.Device.bytes_of b.device) (g.D.Device.bytes_of b.device) b.queue b.garbage b.ending b.promised holds c.runs_meet_the_device.ensures.less (Retired c.in_ok-index.field-0) c.retire.new.self refl refl refl refl refl may tt
+          (holds_progress laws h (g.D.Device.journal b.device) (g.D.Device.journal b.device) (g.D.Device.bytes_of b.device) (g.D.Device.bytes_of b.device) b.queue b.garbage b.ending b.promised holds c.runs_meet_the_device.ensures.less (Retired c.in_ok-index.field-0) c.retire.new.self refl refl refl refl refl may tt
           (sym (append-nil (g.D.Device.journal b.device)))
           holds.in_order
           gone.keeps),

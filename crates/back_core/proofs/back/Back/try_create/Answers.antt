@@ -1,33 +1,13 @@
-use Rattle.std.proofs.Common.{◌≡◌, ℕ, ◌+◌, ◌-◌, ◌<◌, ◌≤◌, [], ◌∷◌, ◌++◌, true, false, length, refl, sym, ap, ◌∙◌, subst, arith, map, Some, None}
-use Rattle.std.specs.Prelude.{Ok, IfNone, All, ◌/◌}
-use Rattle.vk_model.specs.Fitting.{NodeFits}
-use Rattle.vk_device.specs.declared.logged.Turned.TheVariants as turned
-use Rattle.vk_device.specs.Journal.{kind_of, accepted, node_at, creates}
-use Rattle.vk_device.specs.Order.{log_of, order_of, place_of, FindItsLayouts, AllRan}
-use Rattle.vk_device.specs.Effects.{HasTurned, Executes}
-use Rattle.submit_queue.specs.Histories as queue
-use Rattle.back_core.specs.declared.back_event.BackEvent.TheVariants.{Created, Wrote, Enqueued, Submitted, Ran, Retired, Fetched, Gave, Abandoned, Cleaned}
+use Rattle.std.proofs.Common.{◌≡◌, ◌+◌, sym, ap, ◌∙◌, subst, arith, map}
+use Rattle.vk_device.specs.Journal.{creates}
+use Rattle.back_core.specs.declared.back_event.BackEvent.TheVariants.{Created}
 use Rattle.back_core.specs.declared.stored.Stored.TheVariants as stored
-use Rattle.back_core.specs.History.{queue_history, link_of, own_part}
-use Rattle.back_core.specs.Needs.{HostMay, MayEnqueue, MayGive, IsFresh}
-use Rattle.back_core.specs.Run.{submission, journal_of, IsAcceptable, MayRetire}
-use Rattle.back_core.specs.Back.{BackModel, Holds, event_of}
-use Rattle.back_core.proofs.Holding.{GoesOn, at_end, at_end_then, is_end, is_end_then}
-use Rattle.back_core.proofs.Calls.{holds_created, holds_noted, holds_enqueued, progress_room, holds_progress, gave_room, holds_gave, abandoned_room, holds_abandoned, within}
-use Rattle.vk_types.specs.declared.handles.Kind.{Kind}
-use Rattle.back_core.specs.declared.back_event.BackEvent.{BackEvent}
-use Rattle.vk_device.specs.declared.logged.Logged.{Logged}
-use Rattle.std.specs.Prelude.{List}
-use Rattle.cells.specs.Contents.{Agrees, cells}
-use Rattle.vk_device.specs.Order.{IsVisible}
-use Rattle.vk_device.specs.Running.{IsInOrder}
-use Rattle.vk_model.specs.Meaning.{IsSettled}
-use Rattle.vk_device.specs.Journal.{ReachesTo}
-use Rattle.back_core.specs.Run.{IsLeftAlone}
-use Rattle.back_core.specs.Own.{log_of as own_log, IsReadable}
-use Rattle.back_core.specs.Link.{contents_of}
-use Rattle.std.proofs.lemmas.List.{length-replicate}
-use Rattle.back_core.proofs.Numbers.{numbers_few, batches_few, overwritten-all}
+use Rattle.back_core.specs.History.{link_of}
+use Rattle.back_core.specs.Needs.{IsFresh}
+use Rattle.back_core.specs.Run.{journal_of}
+use Rattle.back_core.specs.Back.{Holds, event_of}
+use Rattle.back_core.proofs.Holding.{GoesOn, at_end_then}
+use Rattle.back_core.proofs.Calls.{holds_created}
 use Rattle.back_core.proofs.back.Back.try_create.Goals as goal
 
 pub returns-clause-fresh : goal.returns-clause-fresh
@@ -45,10 +25,9 @@ invariant_of-self-2 g c =
     let h = map event_of b.history.items in
     let holds = c.self.invariant.0 in
     let laws : GoesOn = record { goes_on = c.runs_go_on.ensures.goes_on; journal = c.runs_go_on.ensures.journal; garbage = c.runs_go_on.ensures.garbage } in
-    let handle = c.in_ok-handle.handle in
-    (
+    let handle = c.in_ok-handle.handle in (
       at_end_then (λ l. Holds l (g.D.Device.journal c.create.new.self) (g.D.Device.bytes_of c.create.new.self) b.queue c.reserve_one.new.self b.ending (b.promised + 2)) b.history.items c.reserve.new.self.items c.push_reserved.new.self.items (stored.Event (Created c.args.group c.id.result c.args.kind)) c.push_reserved.ensures.items c.reserve.ensures.items
-        (rw c.id.ensures (holds_created laws h (g.D.Device.journal b.device) (g.D.Device.journal c.create.new.self) (g.D.Device.bytes_of b.device) (g.D.Device.bytes_of c.create.new.self) b.queue b.garbage b.ending b.promised holds c.args.group handle c.args.kind c.reserve_one.new.self
+          (rw c.id.ensures (holds_created laws h (g.D.Device.journal b.device) (g.D.Device.journal c.create.new.self) (g.D.Device.bytes_of b.device) (g.D.Device.bytes_of c.create.new.self) b.queue b.garbage b.ending b.promised holds c.args.group handle c.args.kind c.reserve_one.new.self
           c.in_ok-handle.ensures.number c.requires c.in_ok-handle.ensures.logged.logged
           (c.devices_stay_in_order.ensures.creates b.device c.create.new.self handle c.args.kind holds.in_order c.in_ok-handle.ensures.fresh c.in_ok-handle.ensures.size c.in_ok-handle.ensures.logged)
           c.reserve_one.ensures.items c.in_ok-reserve_one.ensures.room)),
