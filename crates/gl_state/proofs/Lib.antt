@@ -16,3 +16,4 @@ pub mod NameChanges
 pub mod Deleted
 pub mod Ordered
 pub mod Images
+pub mod NamesInUse

@@ -29,7 +29,7 @@ pub use egl::{create_context, destroy_context, make_current};
 pub use framebuffer_calls::{
     attach, bind_framebuffer, delete_framebuffer, draw_buffers, read_buffer,
 };
-pub use nameless::{Ended, Nameless};
+pub use nameless::Ended;
 pub use parameters::{get_error, pixel_store, scissor_box, scissor_test};
 pub use renderbuffers::{bind_renderbuffer, delete_renderbuffer};
 pub use refusal::refuse;

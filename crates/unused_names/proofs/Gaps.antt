@@ -259,3 +259,15 @@ Fits-raised u used passed fits = record {
     never true false true = refl
     never true false false = refl
     never false b c = refl
+
+-- tests that agree on the names from 1 on
+pub Fits-same_above : (u : UnusedNames) (used other : ℕ → Bool) → ((n : ℕ) → 0 < n → other n ≡ used n) → Fits u used → Fits u other
+Fits-same_above u used other same fits = record {
+  start = fits.start;
+  gaps = λ n. fits.gaps n ∙ (elim (cases_lt 0 n) [
+    | inl above ↦ ap (λ b. nat_lt 0 n && (nat_lt n u.top && not b)) (sym (same n above))
+    | inr zero_is ↦
+        let low : n < 1 = omega (arith, zero_is) in
+        off_low n (nat_lt n u.top && not (used n)) low ∙ sym (off_low n (nat_lt n u.top && not (other n)) low)
+  ]);
+}

@@ -95,9 +95,9 @@ fn put_into_use<V: Drop>(used: &mut Table<Option<V>>, found: &[u32]) -> Result<(
 }
 
 impl UnusedNames {
-    /// No name is in use. This takes no memory.
+    /// Nothing is known of the names yet: they are walked from 1 on. This takes no memory.
     pub fn new(alloc: Global) -> UnusedNames
-        ensures { Fits result (λ _. false) }
+        ensures { (used : ℕ → Bool) → Fits result used }
     {
         UnusedNames {
             top: 1,
