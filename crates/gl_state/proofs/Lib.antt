@@ -17,3 +17,4 @@ pub mod Deleted
 pub mod Ordered
 pub mod Images
 pub mod NamesInUse
+pub mod Generating

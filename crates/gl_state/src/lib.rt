@@ -9,6 +9,7 @@ mod egl;
 mod nameless;
 mod framebuffer_calls;
 mod framebuffers;
+mod generation;
 mod names;
 mod parameters;
 mod references;
@@ -28,6 +29,9 @@ pub use buffers::{buffer_data, map_buffer_range, unmap_buffer};
 pub use egl::{create_context, destroy_context, make_current};
 pub use framebuffer_calls::{
     attach, bind_framebuffer, delete_framebuffer, draw_buffers, read_buffer,
+};
+pub use generation::{
+    generate_buffers, generate_framebuffers, generate_renderbuffers, generate_textures,
 };
 pub use nameless::Ended;
 pub use parameters::{get_error, pixel_store, scissor_box, scissor_test};
