@@ -1,6 +1,7 @@
 //! The effect of a call on the state of a share group, all but what its objects hold.
 #![tactic(auto)]
 
+mod applied;
 mod apply;
 mod bindings;
 mod buffers;
