@@ -91,13 +91,13 @@ in_use names name not_made above = step (name == 0) (entry name names.objects) r
 bound_use : (names : Names) (name n : ℕ) (makes : Bool) → makes_object names name ≡ makes → 0 < n → has n (after_bind names name).objects ≡ (has n names.objects || (n == name))
 bound_use names name n true is above = rw is (ap is_some (entry-with_entry name n (Some names.made) names.objects) ∙ or_cond n name (entry n names.objects) (Some names.made))
 bound_use names name n false is above = rw is (elim (cases_eq n name) [
-    | inl here ↦
-        let used : has n names.objects ≡ true = ap (λ k. has k names.objects) here ∙ in_use names name is (omega (arith, above, here)) in
-        rw used refl
-    | inr apart ↦
-        let off : (n == name) ≡ false = grind (arith, common_steps) in
-        rw off (or_false (has n names.objects))
-  ])
+  | inl here ↦
+      let used : has n names.objects ≡ true = ap (λ k. has k names.objects) here ∙ in_use names name is (omega (arith, above, here)) in
+      rw used refl
+  | inr apart ↦
+      let off : (n == name) ≡ false = grind (arith, common_steps) in
+      rw off (or_false (has n names.objects))
+])
   where
     or_false : (b : Bool) → b ≡ (b || false)
     or_false true = refl

@@ -12,7 +12,6 @@ ghost use Rattle.gl_state.specs.Ended.{AreGone};
 ghost use Rattle.gl_state.specs.Quiet.{is_quiet, sets_fact};
 
 use crate::applied::{Applied, reply_of, switched_by};
-use crate::plain::apply_plain;
 use crate::bindings::{bind_buffer, delete_buffer};
 use crate::egl::{create_context, destroy_context, make_current};
 use crate::framebuffer_calls::{
@@ -22,6 +21,7 @@ use crate::generation::{
     generate_buffers, generate_framebuffers, generate_renderbuffers, generate_textures,
 };
 use crate::nameless::Ended;
+use crate::plain::apply_plain;
 use crate::renderbuffers::{bind_renderbuffer, delete_renderbuffer};
 use crate::state::SharedState;
 use crate::storage::{renderbuffer_storage, tex_storage};
@@ -31,7 +31,13 @@ use gl_calls::{BindTarget, Call, NameList, ObjectKind, Reply};
 use std::alloc::{AllocError, Global};
 
 /// Generates names of a kind of object. For want of memory nothing changes.
-fn generate(alloc: Global, state: &mut SharedState, thread: u32, kind: ObjectKind, count: i32) -> Result<(Vec<u32>, Ended), AllocError>
+fn generate(
+    alloc: Global,
+    state: &mut SharedState,
+    thread: u32,
+    kind: ObjectKind,
+    count: i32,
+) -> Result<(Vec<u32>, Ended), AllocError>
     requires { refusal state.old thread (Call.Gen kind count) ≡ None }
     ensures ok { OnOk result (state.new ≡ group_effect state.old thread (Call.Gen kind count)) }
     ensures names { IfOk result (λ r. (c : Held) → current_context state.old thread ≡ Some c → r.0.items ≡ generated_names state.old c kind (unsigned_abs count)) }
@@ -47,7 +53,13 @@ fn generate(alloc: Global, state: &mut SharedState, thread: u32, kind: ObjectKin
 }
 
 /// Deletes a name of a kind of object. For want of memory nothing changes.
-fn delete(alloc: Global, state: &mut SharedState, thread: u32, kind: ObjectKind, name: u32) -> Result<Ended, AllocError>
+fn delete(
+    alloc: Global,
+    state: &mut SharedState,
+    thread: u32,
+    kind: ObjectKind,
+    name: u32,
+) -> Result<Ended, AllocError>
     ensures ok { OnOk result (state.new ≡ group_effect state.old thread (Call.Delete kind name)) }
     ensures ended { IfOk result (λ ended. AreGone state.old state.new ended) }
     ensures err { OnErr result (state.new ≡ state.old) }
@@ -61,7 +73,13 @@ fn delete(alloc: Global, state: &mut SharedState, thread: u32, kind: ObjectKind,
 }
 
 /// Binds a name to a target. For want of memory nothing changes.
-fn bind(alloc: Global, state: &mut SharedState, thread: u32, target: BindTarget, name: u32) -> Result<Ended, AllocError>
+fn bind(
+    alloc: Global,
+    state: &mut SharedState,
+    thread: u32,
+    target: BindTarget,
+    name: u32,
+) -> Result<Ended, AllocError>
     ensures ok { OnOk result (state.new ≡ group_effect state.old thread (Call.Bind target name)) }
     ensures ended { IfOk result (λ ended. AreGone state.old state.new ended) }
     ensures err { OnErr result (state.new ≡ state.old) }
@@ -88,7 +106,12 @@ fn no_objects(alloc: Global) -> Ended
 }
 
 /// Creates a context, after which each object still exists.
-fn create(alloc: Global, state: &mut SharedState, thread: u32, number: u16) -> Result<Ended, AllocError>
+fn create(
+    alloc: Global,
+    state: &mut SharedState,
+    thread: u32,
+    number: u16,
+) -> Result<Ended, AllocError>
     requires declared { IsTrue (has thread state.old.threads) }
     requires accepted { refusal state.old thread (Call.CreateContext number) ≡ None }
     ensures ok { OnOk result (state.new ≡ group_effect state.old thread (Call.CreateContext number)) }
@@ -101,7 +124,12 @@ fn create(alloc: Global, state: &mut SharedState, thread: u32, number: u16) -> R
 }
 
 /// Makes an EGL sync, after which each object still exists.
-fn make_egl_sync(alloc: Global, state: &mut SharedState, thread: u32, number: u16) -> Result<Ended, AllocError>
+fn make_egl_sync(
+    alloc: Global,
+    state: &mut SharedState,
+    thread: u32,
+    number: u16,
+) -> Result<Ended, AllocError>
     requires { IsTrue (has thread state.old.threads) }
     ensures ok { OnOk result (state.new ≡ group_effect state.old thread (Call.CreateSync number)) }
     ensures ended { IfOk result (λ ended. AreGone state.old state.new ended) }
@@ -113,7 +141,12 @@ fn make_egl_sync(alloc: Global, state: &mut SharedState, thread: u32, number: u1
 }
 
 /// Makes a sync, after which each object still exists.
-fn make_sync(alloc: Global, state: &mut SharedState, thread: u32, number: u16) -> Result<Ended, AllocError>
+fn make_sync(
+    alloc: Global,
+    state: &mut SharedState,
+    thread: u32,
+    number: u16,
+) -> Result<Ended, AllocError>
     ensures ok { OnOk result ((condition : FenceCondition) (flags : ℕ) → state.new ≡ group_effect state.old thread (Call.FenceSync number condition flags)) }
     ensures ended { IfOk result (λ ended. AreGone state.old state.new ended) }
     ensures err { OnErr result (state.new ≡ state.old) }
@@ -137,7 +170,12 @@ fn keep_objects(alloc: Global, state: &mut SharedState, thread: u32, call: &Call
 }
 
 /// Applies an accepted call that generates no names. For want of memory nothing changes.
-fn change(alloc: Global, state: &mut SharedState, thread: u32, call: &Call) -> Result<Ended, AllocError>
+fn change(
+    alloc: Global,
+    state: &mut SharedState,
+    thread: u32,
+    call: &Call,
+) -> Result<Ended, AllocError>
     requires declared { IsTrue (has thread state.old.threads) }
     requires accepted { refusal state.old thread call.now ≡ None }
     requires no_names { is_gen call.now ≡ false }
@@ -178,7 +216,12 @@ fn change(alloc: Global, state: &mut SharedState, thread: u32, call: &Call) -> R
 
 /// Applies an accepted call of a declared thread, and tells what it answers, which objects stopped existing and which
 /// contexts were replaced and ended. For want of memory, also where 4294967295 objects of a kind were made, nothing changes.
-pub fn apply(alloc: Global, state: &mut SharedState, thread: u32, call: &Call) -> Result<Applied, AllocError>
+pub fn apply(
+    alloc: Global,
+    state: &mut SharedState,
+    thread: u32,
+    call: &Call,
+) -> Result<Applied, AllocError>
     requires declared { IsTrue (has thread state.old.threads) }
     requires accepted { refusal state.old thread call.now ≡ None }
     ensures ok { OnOk result (state.new ≡ group_effect state.old thread call.now) }

@@ -22,7 +22,12 @@ use unused_names::UnusedNames;
 
 /// Puts the lowest unused names of buffers into use, without objects (OpenGL ES 3.0.6, Buffer Objects). For want of memory nothing
 /// changes.
-pub fn generate_buffers(alloc: Global, state: &mut SharedState, thread: u32, count: i32) -> Result<(Vec<u32>, Ended), AllocError>
+pub fn generate_buffers(
+    alloc: Global,
+    state: &mut SharedState,
+    thread: u32,
+    count: i32,
+) -> Result<(Vec<u32>, Ended), AllocError>
     requires { refusal state.old thread (Call.Gen ObjectKind.Buffer count) ≡ None }
     ensures ok { OnOk result (state.new ≡ group_effect state.old thread (Call.Gen ObjectKind.Buffer count)) }
     ensures names { IfOk result (λ r. r.0.items ≡ lowest_unused state.old.buffer_names.objects (unsigned_abs count)) }
@@ -44,7 +49,12 @@ pub fn generate_buffers(alloc: Global, state: &mut SharedState, thread: u32, cou
 
 /// Puts the lowest unused names of textures into use, without objects (OpenGL ES 3.0.6, Texture Objects). For want of memory nothing
 /// changes.
-pub fn generate_textures(alloc: Global, state: &mut SharedState, thread: u32, count: i32) -> Result<(Vec<u32>, Ended), AllocError>
+pub fn generate_textures(
+    alloc: Global,
+    state: &mut SharedState,
+    thread: u32,
+    count: i32,
+) -> Result<(Vec<u32>, Ended), AllocError>
     requires { refusal state.old thread (Call.Gen ObjectKind.Texture count) ≡ None }
     ensures ok { OnOk result (state.new ≡ group_effect state.old thread (Call.Gen ObjectKind.Texture count)) }
     ensures names { IfOk result (λ r. r.0.items ≡ lowest_unused state.old.texture_names.objects (unsigned_abs count)) }
@@ -66,7 +76,12 @@ pub fn generate_textures(alloc: Global, state: &mut SharedState, thread: u32, co
 
 /// Puts the lowest unused names of renderbuffers into use, without objects (OpenGL ES 3.0.6, Renderbuffer Objects). For want of memory nothing
 /// changes.
-pub fn generate_renderbuffers(alloc: Global, state: &mut SharedState, thread: u32, count: i32) -> Result<(Vec<u32>, Ended), AllocError>
+pub fn generate_renderbuffers(
+    alloc: Global,
+    state: &mut SharedState,
+    thread: u32,
+    count: i32,
+) -> Result<(Vec<u32>, Ended), AllocError>
     requires { refusal state.old thread (Call.Gen ObjectKind.Renderbuffer count) ≡ None }
     ensures ok { OnOk result (state.new ≡ group_effect state.old thread (Call.Gen ObjectKind.Renderbuffer count)) }
     ensures names { IfOk result (λ r. r.0.items ≡ lowest_unused state.old.renderbuffer_names.objects (unsigned_abs count)) }
@@ -97,7 +112,12 @@ fn generate_in(alloc: Global, context: &mut Context, n: u32) -> Result<Vec<u32>,
 }
 
 /// Puts the lowest unused names of framebuffers of the context of a number into use.
-fn generate_at(alloc: Global, contexts: &mut Table<Context>, number: u32, n: u32) -> Result<Vec<u32>, AllocError>
+fn generate_at(
+    alloc: Global,
+    contexts: &mut Table<Context>,
+    number: u32,
+    n: u32,
+) -> Result<Vec<u32>, AllocError>
     ensures ok { OnOk result (contexts.new ≡ changed_at number (λ c. record c { framebuffers = with_generated (lowest_unused c.framebuffers n) c.framebuffers }) contexts.old) }
     ensures names { IfOk result (λ names. (c : Held) → entry number contexts.old ≡ Some c → names.items ≡ lowest_unused c.framebuffers n) }
     ensures err { OnErr result (contexts.new ≡ contexts.old) }
@@ -110,7 +130,12 @@ fn generate_at(alloc: Global, contexts: &mut Table<Context>, number: u32, n: u32
 
 /// Puts the lowest unused names of framebuffers of the current context into use, without objects (OpenGL ES 3.0.6, Binding
 /// and Managing Framebuffer Objects). The names in use are walked. For want of memory nothing changes.
-pub fn generate_framebuffers(alloc: Global, state: &mut SharedState, thread: u32, count: i32) -> Result<(Vec<u32>, Ended), AllocError>
+pub fn generate_framebuffers(
+    alloc: Global,
+    state: &mut SharedState,
+    thread: u32,
+    count: i32,
+) -> Result<(Vec<u32>, Ended), AllocError>
     requires { refusal state.old thread (Call.Gen ObjectKind.Framebuffer count) ≡ None }
     ensures ok { OnOk result (state.new ≡ group_effect state.old thread (Call.Gen ObjectKind.Framebuffer count)) }
     ensures names { IfOk result (λ r. (c : Held) → current_context state.old thread ≡ Some c → r.0.items ≡ lowest_unused c.framebuffers (unsigned_abs count)) }

@@ -2,35 +2,34 @@
 #![tactic(auto)]
 
 mod applied;
-mod plain;
 mod bindings;
 mod buffers;
 mod contexts;
 mod dispatch;
 mod egl;
-mod nameless;
 mod framebuffer_calls;
 mod framebuffers;
 mod generation;
 mod laws;
+mod nameless;
 mod names;
 mod parameters;
+mod plain;
 mod references;
-mod renderbuffers;
 mod refusal;
+mod renderbuffers;
 mod state;
 mod storage;
 mod sweep;
 mod syncs;
-mod textures;
 #[cfg(test)]
 mod tests;
+mod textures;
 
 pub use applied::{Applied, Switched};
-pub use plain::apply_plain;
-pub use dispatch::apply;
 pub use bindings::{bind_buffer, delete_buffer};
 pub use buffers::{buffer_data, map_buffer_range, unmap_buffer};
+pub use dispatch::apply;
 pub use egl::{create_context, destroy_context, make_current};
 pub use framebuffer_calls::{
     attach, bind_framebuffer, delete_framebuffer, draw_buffers, read_buffer,
@@ -41,9 +40,10 @@ pub use generation::{
 pub use laws::replies_are_answers;
 pub use nameless::Ended;
 pub use parameters::{get_error, pixel_store, scissor_box, scissor_test};
-pub use renderbuffers::{bind_renderbuffer, delete_renderbuffer};
+pub use plain::apply_plain;
 pub use refusal::refuse;
+pub use renderbuffers::{bind_renderbuffer, delete_renderbuffer};
 pub use state::SharedState;
 pub use storage::{renderbuffer_storage, tex_storage};
-pub use textures::{bind_texture, delete_texture};
 pub use syncs::{create_sync, delete_sync, destroy_sync, fence_sync, succeed};
+pub use textures::{bind_texture, delete_texture};

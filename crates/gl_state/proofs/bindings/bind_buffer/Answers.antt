@@ -35,26 +35,26 @@ sweep-requires-clause-tied c = record {
 pub invariant_of-state-2 : goal.invariant_of-state-2
 invariant_of-state-2 c = record {
   whole =
-    IsWhole-after_sweep _ _ c.state.inside.nameless _ c.sweep.ensures.swept
-    (rw c.bind_in.ensures (IsRising-changed_at c.in-Some.number (λ (x : Context). with_buffer_binding x c.args.target c.object_of-bound.result) c.state.inside.group.contexts c.state.invariant.whole.kept.contexts))
-    (record {
-      buffers = rw (c.in_ok-make_object.ensures.names, c.in_ok-make_object.ensures.objects) (IsTied-bound c.state.inside.group.buffer_names c.state.inside.group.buffers c.state.inside.nameless.buffers c.state.invariant.whole.tied.buffers c.args.name fresh);
-      textures = c.state.invariant.whole.tied.textures;
-      renderbuffers = c.state.invariant.whole.tied.renderbuffers;
-    })
-    c.sweep.ensures.tied;
+      IsWhole-after_sweep _ _ c.state.inside.nameless _ c.sweep.ensures.swept
+      (rw c.bind_in.ensures (IsRising-changed_at c.in-Some.number (λ (x : Context). with_buffer_binding x c.args.target c.object_of-bound.result) c.state.inside.group.contexts c.state.invariant.whole.kept.contexts))
+      (record {
+        buffers = rw (c.in_ok-make_object.ensures.names, c.in_ok-make_object.ensures.objects) (IsTied-bound c.state.inside.group.buffer_names c.state.inside.group.buffers c.state.inside.nameless.buffers c.state.invariant.whole.tied.buffers c.args.name fresh);
+        textures = c.state.invariant.whole.tied.textures;
+        renderbuffers = c.state.invariant.whole.tied.renderbuffers;
+      })
+      c.sweep.ensures.tied;
   fits = FitNames-swept _ _ _ c.sweep.ensures.swept (record {
-      buffers_fit = rw c.in_ok-make_object.ensures.names (Fits-bound c.note_used.new.self c.state.inside.group.buffer_names c.args.name (c.note_used.ensures (λ (n : ℕ). has n c.state.inside.group.buffer_names.objects) c.state.invariant.fits.buffers_fit));
-      textures_fit = c.state.invariant.fits.textures_fit;
-      renderbuffers_fit = c.state.invariant.fits.renderbuffers_fit;
-    });
+    buffers_fit = rw c.in_ok-make_object.ensures.names (Fits-bound c.note_used.new.self c.state.inside.group.buffer_names c.args.name (c.note_used.ensures (λ (n : ℕ). has n c.state.inside.group.buffer_names.objects) c.state.invariant.fits.buffers_fit));
+    textures_fit = c.state.invariant.fits.textures_fit;
+    renderbuffers_fit = c.state.invariant.fits.renderbuffers_fit;
+  });
 }
 
 pub returns-clause-ok : goal.returns-clause-ok
 returns-clause-ok c =
     let cur = current_at c.state.inside.group c.args.thread c.in-Some.number c.state.invariant.whole.kept (sym c.current_number.ensures ∙ c.in-Some.is) in
     let contexts_is : c.bind_in.new.contexts ≡ with_entry c.in-Some.number (with_buffer_binding cur.0 c.args.target c.object_of-bound.result) c.state.inside.group.contexts =
-        c.bind_in.ensures ∙ cur.1.changed (λ (x : Context). with_buffer_binding x c.args.target c.object_of-bound.result) in
+    c.bind_in.ensures ∙ cur.1.changed (λ (x : Context). with_buffer_binding x c.args.target c.object_of-bound.result) in
     rw (← c.state.view_is)
     (c.sweep.ensures.swept
     ∙ rw (contexts_is, c.object_of-bound.ensures, c.in_ok-make_object.ensures.names, c.in_ok-make_object.ensures.objects)

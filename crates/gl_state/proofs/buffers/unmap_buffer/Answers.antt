@@ -8,8 +8,8 @@ use Rattle.gl_state.proofs.buffers.unmap_buffer.Goals as goal
 pub invariant_of-state : goal.invariant_of-state
 invariant_of-state c = record {
   whole =
-    rw c.set_map.ensures
-    (IsWhole-changed_buffer c.state.inside.group (λ (f : BufferFacts). record f { map = None }) c.state.inside.nameless c.state.invariant.whole c.bound_number-number.result);
+      rw c.set_map.ensures
+      (IsWhole-changed_buffer c.state.inside.group (λ (f : BufferFacts). record f { map = None }) c.state.inside.nameless c.state.invariant.whole c.bound_number-number.result);
   fits = c.state.invariant.fits;
 }
 

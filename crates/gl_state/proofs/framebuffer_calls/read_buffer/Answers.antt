@@ -24,9 +24,9 @@ returns-in_default-clause-ended c = AreGone-none c.args.state.now c.in_ok-ended.
 pub invariant_of-state : goal.invariant_of-state
 invariant_of-state c = record {
   whole =
-    IsWhole-swept _ _ _ c.sweep.ensures.swept
-    (rw c.read_at.ensures (IsRising-changed_at c.in-Some.number (λ (x : Context). change_framebuffer x x.read (with_read c.args.buffer)) c.state.inside.group.contexts c.state.invariant.whole.kept.contexts))
-    c.state.invariant.whole.kept.buffers c.sweep.ensures.tied;
+      IsWhole-swept _ _ _ c.sweep.ensures.swept
+      (rw c.read_at.ensures (IsRising-changed_at c.in-Some.number (λ (x : Context). change_framebuffer x x.read (with_read c.args.buffer)) c.state.inside.group.contexts c.state.invariant.whole.kept.contexts))
+      c.state.invariant.whole.kept.buffers c.sweep.ensures.tied;
   fits = FitNames-swept _ _ _ c.sweep.ensures.swept c.state.invariant.fits;
 }
 
@@ -34,6 +34,6 @@ pub returns-clause-ok : goal.returns-clause-ok
 returns-clause-ok c =
     let cur = current_at c.state.inside.group c.args.thread c.in-Some.number c.state.invariant.whole.kept (sym c.current_number.ensures ∙ c.in-Some.is) in
     let contexts_is : c.read_at.new.contexts ≡ with_entry c.in-Some.number (change_framebuffer cur.0 cur.0.read (with_read c.args.buffer)) c.state.inside.group.contexts =
-        c.read_at.ensures ∙ cur.1.changed (λ (x : Context). change_framebuffer x x.read (with_read c.args.buffer)) in
+    c.read_at.ensures ∙ cur.1.changed (λ (x : Context). change_framebuffer x x.read (with_read c.args.buffer)) in
     rw (← c.state.view_is)
     (c.sweep.ensures.swept ∙ rw (contexts_is) (sym (cur.1.effect (call.ReadBuffer c.args.buffer) refl)))

@@ -24,7 +24,7 @@ pub returns-clause-ok : goal.returns-clause-ok
 returns-clause-ok c =
     let cur = current_at c.state.inside.group c.args.thread c.in-Some.number c.state.invariant.whole.kept (sym c.current_number.ensures ∙ c.in-Some.is) in
     let contexts_is : c.generate_at.new.contexts ≡ with_entry c.in-Some.number (record cur.0 { framebuffers = with_generated (lowest_unused cur.0.framebuffers c.unsigned_abs.result) cur.0.framebuffers }) c.state.inside.group.contexts =
-        c.in_ok-names.ensures.ok ∙ cur.1.changed (λ (x : Context). record x { framebuffers = with_generated (lowest_unused x.framebuffers c.unsigned_abs.result) x.framebuffers }) in
+    c.in_ok-names.ensures.ok ∙ cur.1.changed (λ (x : Context). record x { framebuffers = with_generated (lowest_unused x.framebuffers c.unsigned_abs.result) x.framebuffers }) in
     rw (← c.state.view_is)
     (c.sweep.ensures.swept ∙ rw (contexts_is, c.unsigned_abs.ensures.value, to_z-of_z {w = w32} {z = c.args.count} c.ranges.count) (sym (cur.1.effect (call.Gen kinds.Framebuffer c.args.count) refl)))
 

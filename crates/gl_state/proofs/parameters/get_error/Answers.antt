@@ -10,9 +10,9 @@ use Rattle.gl_state.proofs.parameters.get_error.Goals as goal
 pub invariant_of-state : goal.invariant_of-state
 invariant_of-state c = record {
   whole =
-    rw (c.clear_error.ensures, c.current_number-number.ensures)
-    (IsWhole-along c.state.inside.group _ c.state.inside.nameless c.state.invariant.whole
-    (IsKept-after_change c.state.inside.group c.args.thread (λ (c' : Context). record c' { error = NoError }) c.state.invariant.whole.kept keeps_without_error) refl refl refl refl refl refl);
+      rw (c.clear_error.ensures, c.current_number-number.ensures)
+      (IsWhole-along c.state.inside.group _ c.state.inside.nameless c.state.invariant.whole
+      (IsKept-after_change c.state.inside.group c.args.thread (λ (c' : Context). record c' { error = NoError }) c.state.invariant.whole.kept keeps_without_error) refl refl refl refl refl refl);
   fits = c.state.invariant.fits;
 }
 

@@ -12,9 +12,9 @@ use Rattle.gl_state.proofs.parameters.pixel_store.Goals as goal
 pub invariant_of-state : goal.invariant_of-state
 invariant_of-state c = record {
   whole =
-    rw (c.set_parameter.ensures, c.current_number-number.ensures)
-    (IsWhole-along c.state.inside.group _ c.state.inside.nameless c.state.invariant.whole
-    (IsKept-after_change c.state.inside.group c.args.thread (λ (c' : Context). with_parameter c' c.args.parameter c.magnitude-value.result) c.state.invariant.whole.kept (keeps_parameter c.args.parameter c.magnitude-value.result)) refl refl refl refl refl refl);
+      rw (c.set_parameter.ensures, c.current_number-number.ensures)
+      (IsWhole-along c.state.inside.group _ c.state.inside.nameless c.state.invariant.whole
+      (IsKept-after_change c.state.inside.group c.args.thread (λ (c' : Context). with_parameter c' c.args.parameter c.magnitude-value.result) c.state.invariant.whole.kept (keeps_parameter c.args.parameter c.magnitude-value.result)) refl refl refl refl refl refl);
   fits = c.state.invariant.fits;
 }
 

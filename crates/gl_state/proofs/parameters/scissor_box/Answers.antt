@@ -11,9 +11,9 @@ use Rattle.gl_state.proofs.parameters.scissor_box.Goals as goal
 pub invariant_of-state : goal.invariant_of-state
 invariant_of-state c = record {
   whole =
-    rw (c.set_scissor.ensures, c.current_number-number.ensures)
-    (IsWhole-along c.state.inside.group _ c.state.inside.nameless c.state.invariant.whole
-    (IsKept-after_change c.state.inside.group c.args.thread (λ (c' : Context). record c' { scissor = c.box_of-scissor.result }) c.state.invariant.whole.kept (keeps_scissor (c.box_of-scissor.result))) refl refl refl refl refl refl);
+      rw (c.set_scissor.ensures, c.current_number-number.ensures)
+      (IsWhole-along c.state.inside.group _ c.state.inside.nameless c.state.invariant.whole
+      (IsKept-after_change c.state.inside.group c.args.thread (λ (c' : Context). record c' { scissor = c.box_of-scissor.result }) c.state.invariant.whole.kept (keeps_scissor (c.box_of-scissor.result))) refl refl refl refl refl refl);
   fits = c.state.invariant.fits;
 }
 

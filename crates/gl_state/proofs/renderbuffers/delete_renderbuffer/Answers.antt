@@ -37,7 +37,7 @@ pub sweep-requires-clause-room : goal.sweep-requires-clause-room
 sweep-requires-clause-room c =
     let room = c.in_ok-ended.ensures in
     let more : length c.list_nameless.new.nameless ≤ length c.state.inside.nameless.renderbuffers + 1 =
-        rw c.in_ok-list_nameless.ensures.ok (length-listed c.state.inside.group.renderbuffers c.state.inside.nameless.renderbuffers c.object_of-object.result) in
+    rw c.in_ok-list_nameless.ensures.ok (length-listed c.state.inside.group.renderbuffers c.state.inside.nameless.renderbuffers c.object_of-object.result) in
     record {
       no_buffers = room.no_buffers;
       no_textures = room.no_textures;
@@ -50,20 +50,20 @@ sweep-requires-clause-room c =
 pub invariant_of-state-2 : goal.invariant_of-state-2
 invariant_of-state-2 c = record {
   whole =
-    let lost = IsTied-lost c.state.inside.group.renderbuffer_names c.state.inside.group.renderbuffers c.state.inside.nameless.renderbuffers c.state.invariant.whole.tied.renderbuffers c.args.name in
-    IsWhole-after_sweep _ _ (record { buffers = c.state.inside.nameless.buffers; textures = c.state.inside.nameless.textures; renderbuffers = c.list_nameless.new.nameless }) _ c.sweep.ensures.swept
-    (rw c.unbind_in.ensures (IsRising-changed_if c.in-Some.number (λ (b : ℕ) (x : Context). without_renderbuffer x b) c.object_of-object.result c.state.inside.group.contexts c.state.invariant.whole.kept.contexts))
-    (record {
-      renderbuffers = rw (c.in_ok-list_nameless.ensures.ok, c.object_of-object.ensures, c.remove.ensures) lost;
-      textures = c.state.invariant.whole.tied.textures;
-      buffers = c.state.invariant.whole.tied.buffers;
-    })
-    c.sweep.ensures.tied;
+      let lost = IsTied-lost c.state.inside.group.renderbuffer_names c.state.inside.group.renderbuffers c.state.inside.nameless.renderbuffers c.state.invariant.whole.tied.renderbuffers c.args.name in
+      IsWhole-after_sweep _ _ (record { buffers = c.state.inside.nameless.buffers; textures = c.state.inside.nameless.textures; renderbuffers = c.list_nameless.new.nameless }) _ c.sweep.ensures.swept
+      (rw c.unbind_in.ensures (IsRising-changed_if c.in-Some.number (λ (b : ℕ) (x : Context). without_renderbuffer x b) c.object_of-object.result c.state.inside.group.contexts c.state.invariant.whole.kept.contexts))
+      (record {
+        renderbuffers = rw (c.in_ok-list_nameless.ensures.ok, c.object_of-object.ensures, c.remove.ensures) lost;
+        textures = c.state.invariant.whole.tied.textures;
+        buffers = c.state.invariant.whole.tied.buffers;
+      })
+      c.sweep.ensures.tied;
   fits = FitNames-swept _ _ _ c.sweep.ensures.swept (record {
-      buffers_fit = c.state.invariant.fits.buffers_fit;
-      textures_fit = c.state.invariant.fits.textures_fit;
-      renderbuffers_fit = rw c.remove.ensures (Fits-deleted c.note_unused.new.self c.state.inside.group.renderbuffer_names c.args.name c.state.invariant.whole.tied.renderbuffers.ordered (c.note_unused.ensures (λ (n : ℕ). has n c.state.inside.group.renderbuffer_names.objects) c.state.invariant.fits.renderbuffers_fit));
-    });
+    buffers_fit = c.state.invariant.fits.buffers_fit;
+    textures_fit = c.state.invariant.fits.textures_fit;
+    renderbuffers_fit = rw c.remove.ensures (Fits-deleted c.note_unused.new.self c.state.inside.group.renderbuffer_names c.args.name c.state.invariant.whole.tied.renderbuffers.ordered (c.note_unused.ensures (λ (n : ℕ). has n c.state.inside.group.renderbuffer_names.objects) c.state.invariant.fits.renderbuffers_fit));
+  });
 }
 
 pub returns-clause-ok : goal.returns-clause-ok

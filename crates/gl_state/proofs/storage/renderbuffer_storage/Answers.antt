@@ -22,14 +22,14 @@ sweep-requires-clause-tied c =
 pub invariant_of-state : goal.invariant_of-state
 invariant_of-state c = record {
   whole =
-    let exists : option_map_or (λ t. has t c.state.inside.group.renderbuffers) c.bound_renderbuffer-number.result true ≡ true = rw c.bound_renderbuffer-number.ensures (renderbuffer_exists c.state.inside.group c.args.thread c.args.format c.args.width c.args.height (rw (← c.state.view_is) at c.requires)) in
-    IsWhole-after_sweep _ _ c.state.inside.nameless _ c.sweep.ensures.swept c.state.invariant.whole.kept.contexts
-    (record {
-      renderbuffers = rw c.set_image.ensures (IsTied-changed_image c.state.inside.group.renderbuffer_names c.state.inside.group.renderbuffers c.state.inside.nameless.renderbuffers c.state.invariant.whole.tied.renderbuffers c.new_image.result c.bound_renderbuffer-number.result exists);
-      buffers = c.state.invariant.whole.tied.buffers;
-      textures = c.state.invariant.whole.tied.textures;
-    })
-    c.sweep.ensures.tied;
+      let exists : option_map_or (λ t. has t c.state.inside.group.renderbuffers) c.bound_renderbuffer-number.result true ≡ true = rw c.bound_renderbuffer-number.ensures (renderbuffer_exists c.state.inside.group c.args.thread c.args.format c.args.width c.args.height (rw (← c.state.view_is) at c.requires)) in
+      IsWhole-after_sweep _ _ c.state.inside.nameless _ c.sweep.ensures.swept c.state.invariant.whole.kept.contexts
+      (record {
+        renderbuffers = rw c.set_image.ensures (IsTied-changed_image c.state.inside.group.renderbuffer_names c.state.inside.group.renderbuffers c.state.inside.nameless.renderbuffers c.state.invariant.whole.tied.renderbuffers c.new_image.result c.bound_renderbuffer-number.result exists);
+        buffers = c.state.invariant.whole.tied.buffers;
+        textures = c.state.invariant.whole.tied.textures;
+      })
+      c.sweep.ensures.tied;
   fits = FitNames-swept _ _ _ c.sweep.ensures.swept c.state.invariant.fits;
 }
 

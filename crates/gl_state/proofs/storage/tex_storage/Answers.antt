@@ -22,14 +22,14 @@ sweep-requires-clause-tied c =
 pub invariant_of-state : goal.invariant_of-state
 invariant_of-state c = record {
   whole =
-    let exists : option_map_or (λ t. has t c.state.inside.group.textures) c.bound_texture-number.result true ≡ true = rw c.bound_texture-number.ensures (texture_exists c.state.inside.group c.args.thread c.args.levels c.args.format c.args.width c.args.height (rw (← c.state.view_is) at c.requires)) in
-    IsWhole-after_sweep _ _ c.state.inside.nameless _ c.sweep.ensures.swept c.state.invariant.whole.kept.contexts
-    (record {
-      textures = rw c.set_image.ensures (IsTied-changed_image c.state.inside.group.texture_names c.state.inside.group.textures c.state.inside.nameless.textures c.state.invariant.whole.tied.textures c.new_image.result c.bound_texture-number.result exists);
-      buffers = c.state.invariant.whole.tied.buffers;
-      renderbuffers = c.state.invariant.whole.tied.renderbuffers;
-    })
-    c.sweep.ensures.tied;
+      let exists : option_map_or (λ t. has t c.state.inside.group.textures) c.bound_texture-number.result true ≡ true = rw c.bound_texture-number.ensures (texture_exists c.state.inside.group c.args.thread c.args.levels c.args.format c.args.width c.args.height (rw (← c.state.view_is) at c.requires)) in
+      IsWhole-after_sweep _ _ c.state.inside.nameless _ c.sweep.ensures.swept c.state.invariant.whole.kept.contexts
+      (record {
+        textures = rw c.set_image.ensures (IsTied-changed_image c.state.inside.group.texture_names c.state.inside.group.textures c.state.inside.nameless.textures c.state.invariant.whole.tied.textures c.new_image.result c.bound_texture-number.result exists);
+        buffers = c.state.invariant.whole.tied.buffers;
+        renderbuffers = c.state.invariant.whole.tied.renderbuffers;
+      })
+      c.sweep.ensures.tied;
   fits = FitNames-swept _ _ _ c.sweep.ensures.swept c.state.invariant.fits;
 }
 

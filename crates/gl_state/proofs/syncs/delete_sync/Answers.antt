@@ -8,8 +8,8 @@ use Rattle.gl_state.proofs.syncs.delete_sync.Goals as goal
 pub invariant_of-state : goal.invariant_of-state
 invariant_of-state c = record {
   whole =
-    IsWhole-along c.state.inside.group _ c.state.inside.nameless c.state.invariant.whole
-    (IsKept-syncs c.state.inside.group c.take_out.new.syncs c.state.invariant.whole.kept) refl refl refl refl refl refl;
+      IsWhole-along c.state.inside.group _ c.state.inside.nameless c.state.invariant.whole
+      (IsKept-syncs c.state.inside.group c.take_out.new.syncs c.state.invariant.whole.kept) refl refl refl refl refl refl;
   fits = c.state.invariant.fits;
 }
 
