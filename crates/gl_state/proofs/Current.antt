@@ -65,12 +65,14 @@ current_entry_at : (group : GroupState) (thread : ℕ) (number : ℕ) (found : O
 current_entry_at group thread number None kept is none = absurd (cc)
 current_entry_at group thread number (Some e) kept is some =
     let same : e.0 ≡ number = cc in
-    let here : entry number group.contexts ≡ Some e.1 = ap (λ k. entry k group.contexts) (sym same) ∙ found_entry (λ x. same_option x.1.thread (Some thread)) group.contexts e kept.contexts is in
-    (e.1, record {
-      here = here;
-      effect = λ asked gl. effect_at group thread e is asked gl ∙ ap (λ k. swept (gl_change group k e.1 asked)) same;
-      changed = λ change. changed_at-entry number change e.1 group.contexts kept.contexts here;
-    })
+    let here : entry number group.contexts ≡ Some e.1 = ap (λ k. entry k group.contexts) (sym same) ∙ found_entry (λ x. same_option x.1.thread (Some thread)) group.contexts e kept.contexts is in (
+      e.1,
+      record {
+        here = here;
+        effect = λ asked gl. effect_at group thread e is asked gl ∙ ap (λ k. swept (gl_change group k e.1 asked)) same;
+        changed = λ change. changed_at-entry number change e.1 group.contexts kept.contexts here;
+      },
+    )
 
 pub current_at : (group : GroupState) (thread : ℕ) (number : ℕ) → IsKept group → option_map (λ e. e.0) (current_entry group thread) ≡ Some number → (context : Context) × IsCurrent group thread number context
 current_at group thread number kept some = current_entry_at group thread number (current_entry group thread) kept refl some

@@ -17,11 +17,11 @@ AreAbove-with_entry j k v (e ∷ t) below above =
     elim (cases_eq k e.0) [
       | inl same ↦ rw (set_head k v e t same) above
       | inr differs ↦ elim (cases_lt k e.0) [
-          | inl before ↦ rw (set_before k v e t before) (below, above)
-          | inr after ↦
-              let past : e.0 < k = omega (arith, differs, after) in
-              rw (set_past k v e t past) (above.0, AreAbove-with_entry j k v t below above.1)
-        ]
+        | inl before ↦ rw (set_before k v e t before) (below, above)
+        | inr after ↦
+            let past : e.0 < k = omega (arith, differs, after) in
+            rw (set_past k v e t past) (above.0, AreAbove-with_entry j k v t below above.1)
+      ]
     ]
 
 pub IsRising-with_entry : {V : Type 0} (k : ℕ) (v : V) (t : Entries V) → IsRising t → IsRising (with_entry k v t)
@@ -30,11 +30,11 @@ IsRising-with_entry k v (e ∷ t) rising =
     elim (cases_eq k e.0) [
       | inl same ↦ rw (set_head k v e t same) rising
       | inr differs ↦ elim (cases_lt k e.0) [
-          | inl before ↦ rw (set_before k v e t before) ((before, AreAbove-below k e.0 t before rising.0), rising)
-          | inr after ↦
-              let past : e.0 < k = omega (arith, differs, after) in
-              rw (set_past k v e t past) (AreAbove-with_entry e.0 k v t past rising.0, IsRising-with_entry k v t rising.1)
-        ]
+        | inl before ↦ rw (set_before k v e t before) ((before, AreAbove-below k e.0 t before rising.0), rising)
+        | inr after ↦
+            let past : e.0 < k = omega (arith, differs, after) in
+            rw (set_past k v e t past) (AreAbove-with_entry e.0 k v t past rising.0, IsRising-with_entry k v t rising.1)
+      ]
     ]
 
 AreAbove-filter : {V : Type 0} (p : ℕ × V → Bool) (j : ℕ) (t : Entries V) → AreAbove j t → AreAbove j (filter p t)
@@ -83,11 +83,11 @@ only-with_entry_out p k v (e ∷ t) out =
           let here : p e.0 ≡ false = ap p (sym same) ∙ out in
           rw (set_head k v e t same, only-cons p (e.0, v) t false here, only-cons p e t false here) refl
       | inr differs ↦ elim (cases_lt k e.0) [
-          | inl before ↦ rw (set_before k v e t before) (only-cons p (k, v) (e ∷ t) false out)
-          | inr after ↦
-              let past : e.0 < k = omega (arith, differs, after) in
-              rw (set_past k v e t past) (ap (λ rest. cond (p e.0) (e ∷ rest) rest) (only-with_entry_out p k v t out))
-        ]
+        | inl before ↦ rw (set_before k v e t before) (only-cons p (k, v) (e ∷ t) false out)
+        | inr after ↦
+            let past : e.0 < k = omega (arith, differs, after) in
+            rw (set_past k v e t past) (ap (λ rest. cond (p e.0) (e ∷ rest) rest) (only-with_entry_out p k v t out))
+      ]
     ]
 
 has_later : {V : Type 0} (k : ℕ) (e : ℕ × V) (t : Entries V) → has k t ≡ true → has k (e ∷ t) ≡ true
@@ -139,11 +139,11 @@ above_of j k t above had =
     elim (cases_lt j k) [
       | inl below ↦ below
       | inr not_below ↦ elim (cases_eq k j) [
-          | inl same ↦ absurd (cc (had, above_absent j t above, same))
-          | inr differs ↦
-              let below : k < j = omega (arith, not_below, differs) in
-              absurd (cc (had, above_absent k t (AreAbove-below k j t below above)))
-        ]
+        | inl same ↦ absurd (cc (had, above_absent j t above, same))
+        | inr differs ↦
+            let below : k < j = omega (arith, not_below, differs) in
+            absurd (cc (had, above_absent k t (AreAbove-below k j t below above)))
+      ]
     ]
 
 one_more_step : {V : Type 0} (p : ℕ → Bool) (b : ℕ) (e : ℕ × V) (t : Entries V) → e.0 < b → (c : Bool) → key_set (only (λ k. p k || (k == b)) t) ≡ with_entry b tt (key_set (only p t)) → key_set (cond c (e ∷ only (λ k. p k || (k == b)) t) (only (λ k. p k || (k == b)) t)) ≡ with_entry b tt (key_set (cond c (e ∷ only p t) (only p t)))

@@ -79,6 +79,7 @@ module _ {V : Type 0} (names : Names) (objects : Entries V) (nameless : Entries 
       above : {W : Type 0} (j : ℕ) (t : Entries W) → AreAbove j t → AreAbove j (key_set t)
       above j [] a = tt
       above j (e ∷ t) a = (a.0, above j t a.1)
+
       marked_rising : {W : Type 0} (t : Entries W) → IsRising t → IsRising (key_set t)
       marked_rising [] r = tt
       marked_rising (e ∷ t) r = (above e.0 t r.0, marked_rising t r.1)

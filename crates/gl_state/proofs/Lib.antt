@@ -16,3 +16,7 @@ pub mod NameChanges
 pub mod Deleted
 pub mod Ordered
 pub mod Images
+pub mod NamesInUse
+pub mod Generating
+pub mod NoneGone
+pub mod ReplyLaws

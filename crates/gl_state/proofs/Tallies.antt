@@ -37,14 +37,14 @@ tally-with_entry p k w (e ∷ t) rising =
           rw (set_head k w e t same, at_head k e t same)
           (omega (arith, tally-cons p (e.0, w) t, tally-cons p e t))
       | inr differs ↦ elim (cases_lt k e.0) [
-          | inl below ↦
-              rw (set_before k w e t below, past_head k e t differs, above_absent k t (AreAbove-below k e.0 t below rising.0))
-              (omega (arith, tally-cons p (k, w) (e ∷ t)))
-          | inr above ↦
-              let past : e.0 < k = omega (arith, differs, above) in
-              rw (set_past k w e t past, past_head k e t differs)
-              (omega (arith, tally-cons p e (with_entry k w t), tally-cons p e t, tally-with_entry p k w t rising.1))
-        ]
+        | inl below ↦
+            rw (set_before k w e t below, past_head k e t differs, above_absent k t (AreAbove-below k e.0 t below rising.0))
+            (omega (arith, tally-cons p (k, w) (e ∷ t)))
+        | inr above ↦
+            let past : e.0 < k = omega (arith, differs, above) in
+            rw (set_past k w e t past, past_head k e t differs)
+            (omega (arith, tally-cons p e (with_entry k w t), tally-cons p e t, tally-with_entry p k w t rising.1))
+      ]
     ]
 
 pub without_head : {V : Type 0} (k : ℕ) (e : ℕ × V) (t : Entries V) → k ≡ e.0 → without k (e ∷ t) ≡ t

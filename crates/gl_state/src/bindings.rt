@@ -9,8 +9,8 @@ ghost use Rattle.gl_state.specs.Ended.{AreGone};
 
 use crate::buffers::set_map;
 use crate::contexts::current_number;
-use crate::names::{list_nameless, make_object, object_of};
 use crate::nameless::Ended;
+use crate::names::{list_nameless, make_object, object_of};
 use crate::state::SharedState;
 use crate::sweep::sweep;
 use gl_calls::{BufferTarget, Call};
@@ -76,7 +76,13 @@ fn unbind_in(contexts: &mut Table<Context>, number: u32, buffer: Option<u32>)
 
 /// Binds a buffer, and makes it where the name has none (OpenGL ES 3.0.6, Creating and Binding Buffer Objects). For want of
 /// memory nothing changes.
-pub fn bind_buffer(alloc: Global, state: &mut SharedState, thread: u32, target: BufferTarget, name: u32) -> Result<Ended, AllocError>
+pub fn bind_buffer(
+    alloc: Global,
+    state: &mut SharedState,
+    thread: u32,
+    target: BufferTarget,
+    name: u32,
+) -> Result<Ended, AllocError>
     ensures ok { OnOk result (state.new ≡ group_effect state.old thread (Call.Bind (BindTarget.Buffer target) name)) }
     ensures ended { IfOk result (λ ended. AreGone state.old state.new ended) }
     ensures err { OnErr result (state.new ≡ state.old) }
@@ -86,7 +92,13 @@ pub fn bind_buffer(alloc: Global, state: &mut SharedState, thread: u32, target: 
         return Ok(ended);
     };
     let fresh = BufferFacts { size: 0, map: None };
-    make_object(&mut state.group.buffer_names, &mut state.group.buffers, name, fresh)?;
+    make_object(
+        &mut state.group.buffer_names,
+        &mut state.group.buffers,
+        name,
+        fresh,
+    )?;
+    state.unused.buffers.note_used(name);
     let bound = object_of(&state.group.buffer_names, name);
     bind_in(&mut state.group.contexts, number, target, bound);
     sweep(&mut state.group, &mut state.nameless, &mut ended);
@@ -95,7 +107,12 @@ pub fn bind_buffer(alloc: Global, state: &mut SharedState, thread: u32, target: 
 
 /// Deletes the name of a buffer (OpenGL ES 3.0.6, Buffer Objects). The buffer is unmapped, and unbound in this context; it
 /// lives on while another context has it bound. For want of memory nothing changes.
-pub fn delete_buffer(alloc: Global, state: &mut SharedState, thread: u32, name: u32) -> Result<Ended, AllocError>
+pub fn delete_buffer(
+    alloc: Global,
+    state: &mut SharedState,
+    thread: u32,
+    name: u32,
+) -> Result<Ended, AllocError>
     ensures ok { OnOk result (state.new ≡ group_effect state.old thread (Call.Delete ObjectKind.Buffer name)) }
     ensures ended { IfOk result (λ ended. AreGone state.old state.new ended) }
     ensures err { OnErr result (state.new ≡ state.old) }
@@ -107,6 +124,7 @@ pub fn delete_buffer(alloc: Global, state: &mut SharedState, thread: u32, name: 
     let object = object_of(&state.group.buffer_names, name);
     list_nameless(&state.group.buffers, &mut state.nameless.buffers, object)?;
     state.group.buffer_names.objects.remove(name);
+    state.unused.buffers.note_unused(name);
     unbind_in(&mut state.group.contexts, number, object);
     set_map(&mut state.group.buffers, object, None);
     sweep(&mut state.group, &mut state.nameless, &mut ended);

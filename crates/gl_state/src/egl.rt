@@ -114,20 +114,33 @@ fn take(contexts: &mut Table<Context>, thread: u32, number: u32)
 }
 
 /// Creates a context (EGL 1.5, Creating Rendering Contexts). For want of memory nothing changes.
-pub fn create_context(alloc: Global, state: &mut SharedState, thread: u32, number: u16) -> Result<(), AllocError>
+pub fn create_context(
+    alloc: Global,
+    state: &mut SharedState,
+    thread: u32,
+    number: u16,
+) -> Result<(), AllocError>
     requires declared { IsTrue (has thread state.old.threads) }
     requires accepted { refusal state.old thread (Call.CreateContext number) ≡ None }
     ensures ok { OnOk result (state.new ≡ group_effect state.old thread (Call.CreateContext number)) }
     ensures err { OnErr result (state.new ≡ state.old) }
 {
-    state.group.contexts.insert(u32::from(number), new_context(alloc))?;
+    state
+        .group
+        .contexts
+        .insert(u32::from(number), new_context(alloc))?;
     state.group.threads.replace(thread, EglError::Success);
     Ok(())
 }
 
 /// Destroys a context, or marks one that is current (EGL 1.5, Destroying Rendering Contexts). A context that ends releases
 /// its bindings and framebuffers. For want of memory nothing changes.
-pub fn destroy_context(alloc: Global, state: &mut SharedState, thread: u32, number: u16) -> Result<Ended, AllocError>
+pub fn destroy_context(
+    alloc: Global,
+    state: &mut SharedState,
+    thread: u32,
+    number: u16,
+) -> Result<Ended, AllocError>
     requires { IsTrue (has thread state.old.threads) }
     ensures ok { OnOk result (state.new ≡ group_effect state.old thread (Call.DestroyContext number)) }
     ensures ended { IfOk result (λ ended. AreGone state.old state.new ended) }
@@ -142,7 +155,12 @@ pub fn destroy_context(alloc: Global, state: &mut SharedState, thread: u32, numb
 
 /// Makes a context current on a thread, or none for number 0 (EGL 1.5, Binding Contexts and Drawables). The context that
 /// the thread had ends where it is marked, and releases its bindings and framebuffers. For want of memory nothing changes.
-pub fn make_current(alloc: Global, state: &mut SharedState, thread: u32, number: u16) -> Result<Ended, AllocError>
+pub fn make_current(
+    alloc: Global,
+    state: &mut SharedState,
+    thread: u32,
+    number: u16,
+) -> Result<Ended, AllocError>
     requires { IsTrue (has thread state.old.threads) }
     ensures ok { OnOk result (state.new ≡ group_effect state.old thread (Call.MakeCurrent number)) }
     ensures ended { IfOk result (λ ended. AreGone state.old state.new ended) }

@@ -11,8 +11,8 @@ use crate::contexts::current_number;
 use crate::framebuffers::{
     attach_in, bind_framebuffer_in, delete_framebuffer_in, set_draws_in, set_read_in,
 };
-use crate::names::object_of;
 use crate::nameless::Ended;
+use crate::names::object_of;
 use crate::state::SharedState;
 use crate::sweep::sweep;
 use gl_calls::{AttachPoint, AttachWhat, Call, DrawBuffer, DrawBufferList, FramebufferTarget};
@@ -21,7 +21,12 @@ use std::alloc::{AllocError, Global};
 use tables::Table;
 
 /// Binds a framebuffer in the context of a number, and makes it where the name has none.
-fn bind_at(contexts: &mut Table<Context>, number: u32, target: FramebufferTarget, name: u32) -> Result<(), AllocError>
+fn bind_at(
+    contexts: &mut Table<Context>,
+    number: u32,
+    target: FramebufferTarget,
+    name: u32,
+) -> Result<(), AllocError>
     ensures ok { OnOk result (contexts.new ≡ changed_at number (λ c. with_framebuffer_binding (with_framebuffer c name) target name) contexts.old) }
     ensures err { OnErr result (contexts.new ≡ contexts.old) }
 {
@@ -50,7 +55,13 @@ fn attach_to_bound(context: &mut Context, target: FramebufferTarget, point: u8, 
 }
 
 /// Puts an image at a point of a framebuffer of the context of a number.
-fn attach_at(contexts: &mut Table<Context>, number: u32, target: FramebufferTarget, point: u8, image: Attachment)
+fn attach_at(
+    contexts: &mut Table<Context>,
+    number: u32,
+    target: FramebufferTarget,
+    point: u8,
+    image: Attachment,
+)
     requires { point < 4 }
     ensures { contexts.new ≡ changed_at number (λ c. change_framebuffer c (framebuffer_name c target) (with_point point image)) contexts.old }
 {
@@ -95,7 +106,13 @@ fn attachment_of(group: &GroupState, what: AttachWhat, name: u32) -> Attachment
 
 /// Binds a framebuffer, and makes it where the name has none (OpenGL ES 3.0.6, Binding and Managing Framebuffer Objects).
 /// For want of memory nothing changes.
-pub fn bind_framebuffer(alloc: Global, state: &mut SharedState, thread: u32, target: FramebufferTarget, name: u32) -> Result<Ended, AllocError>
+pub fn bind_framebuffer(
+    alloc: Global,
+    state: &mut SharedState,
+    thread: u32,
+    target: FramebufferTarget,
+    name: u32,
+) -> Result<Ended, AllocError>
     ensures ok { OnOk result (state.new ≡ group_effect state.old thread (Call.Bind (BindTarget.Framebuffer target) name)) }
     ensures ended { IfOk result (λ ended. AreGone state.old state.new ended) }
     ensures err { OnErr result (state.new ≡ state.old) }
@@ -111,7 +128,12 @@ pub fn bind_framebuffer(alloc: Global, state: &mut SharedState, thread: u32, tar
 
 /// Deletes the name of a framebuffer of the current context (OpenGL ES 3.0.6, Binding and Managing Framebuffer Objects). What
 /// was attached lives on while something else refers to it. For want of memory nothing changes.
-pub fn delete_framebuffer(alloc: Global, state: &mut SharedState, thread: u32, name: u32) -> Result<Ended, AllocError>
+pub fn delete_framebuffer(
+    alloc: Global,
+    state: &mut SharedState,
+    thread: u32,
+    name: u32,
+) -> Result<Ended, AllocError>
     ensures ok { OnOk result (state.new ≡ group_effect state.old thread (Call.Delete ObjectKind.Framebuffer name)) }
     ensures ended { IfOk result (λ ended. AreGone state.old state.new ended) }
     ensures err { OnErr result (state.new ≡ state.old) }
@@ -127,7 +149,15 @@ pub fn delete_framebuffer(alloc: Global, state: &mut SharedState, thread: u32, n
 
 /// Attaches a texture or renderbuffer, or nothing for 0 (OpenGL ES 3.0.6, Attaching Images to Framebuffer Objects). What was
 /// attached before lives on while something else refers to it. For want of memory nothing changes.
-pub fn attach(alloc: Global, state: &mut SharedState, thread: u32, target: FramebufferTarget, point: AttachPoint, what: AttachWhat, name: u32) -> Result<Ended, AllocError>
+pub fn attach(
+    alloc: Global,
+    state: &mut SharedState,
+    thread: u32,
+    target: FramebufferTarget,
+    point: AttachPoint,
+    what: AttachWhat,
+    name: u32,
+) -> Result<Ended, AllocError>
     ensures ok { OnOk result (state.new ≡ group_effect state.old thread (Call.Attach target point what name)) }
     ensures ended { IfOk result (λ ended. AreGone state.old state.new ended) }
     ensures err { OnErr result (state.new ≡ state.old) }
@@ -150,7 +180,12 @@ pub fn attach(alloc: Global, state: &mut SharedState, thread: u32, target: Frame
 
 /// Sets the draw buffers of the draw framebuffer (OpenGL ES 3.0.6, Selecting a Buffer for Writing). For want of memory
 /// nothing changes.
-pub fn draw_buffers(alloc: Global, state: &mut SharedState, thread: u32, buffers: &DrawBufferList) -> Result<Ended, AllocError>
+pub fn draw_buffers(
+    alloc: Global,
+    state: &mut SharedState,
+    thread: u32,
+    buffers: &DrawBufferList,
+) -> Result<Ended, AllocError>
     ensures ok { OnOk result (state.new ≡ group_effect state.old thread (Call.DrawBuffers buffers.now)) }
     ensures ended { IfOk result (λ ended. AreGone state.old state.new ended) }
     ensures err { OnErr result (state.new ≡ state.old) }
@@ -166,7 +201,12 @@ pub fn draw_buffers(alloc: Global, state: &mut SharedState, thread: u32, buffers
 
 /// Sets the point that the read framebuffer reads (OpenGL ES 3.0.6, Obtaining Pixels from the Framebuffer). For want of
 /// memory nothing changes.
-pub fn read_buffer(alloc: Global, state: &mut SharedState, thread: u32, buffer: DrawBuffer) -> Result<Ended, AllocError>
+pub fn read_buffer(
+    alloc: Global,
+    state: &mut SharedState,
+    thread: u32,
+    buffer: DrawBuffer,
+) -> Result<Ended, AllocError>
     ensures ok { OnOk result (state.new ≡ group_effect state.old thread (Call.ReadBuffer buffer)) }
     ensures ended { IfOk result (λ ended. AreGone state.old state.new ended) }
     ensures err { OnErr result (state.new ≡ state.old) }

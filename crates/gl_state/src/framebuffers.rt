@@ -193,13 +193,15 @@ fn make_framebuffer(context: &mut Context, name: u32) -> Result<(), AllocError>
     if name == 0 || context.framebuffer(name).is_some() {
         return Ok(());
     }
-    context
-        .framebuffers
-        .insert(name, Some(new_framebuffer()))
+    context.framebuffers.insert(name, Some(new_framebuffer()))
 }
 
 /// Binds the framebuffer of a name, and makes it where there is none. For want of memory nothing changes.
-pub fn bind_framebuffer_in(context: &mut Context, target: FramebufferTarget, name: u32) -> Result<(), AllocError>
+pub fn bind_framebuffer_in(
+    context: &mut Context,
+    target: FramebufferTarget,
+    name: u32,
+) -> Result<(), AllocError>
     ensures ok { OnOk result (context.new ≡ with_framebuffer_binding (with_framebuffer context.old name) target name) }
     ensures err { OnErr result (context.new ≡ context.old) }
 {

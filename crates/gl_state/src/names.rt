@@ -20,7 +20,12 @@ pub fn object_of(names: &Names, name: u32) -> Option<u32>
 
 /// Makes an object for a name other than 0 that has none (OpenGL ES 3.0.6, Object Model). For want of memory, also where
 /// 4294967295 objects of the kind were made, nothing changes.
-pub fn make_object<V: Drop>(names: &mut Names, objects: &mut Table<V>, name: u32, fresh: V) -> Result<(), AllocError>
+pub fn make_object<V: Drop>(
+    names: &mut Names,
+    objects: &mut Table<V>,
+    name: u32,
+    fresh: V,
+) -> Result<(), AllocError>
     requires { has names.old.made objects.old ≡ false }
     ensures names { OnOk result (names.new ≡ after_bind names.old name) }
     ensures objects { OnOk result (objects.new ≡ with_made names.old name fresh objects.old) }
@@ -47,7 +52,11 @@ pub fn make_object<V: Drop>(names: &mut Names, objects: &mut Table<V>, name: u32
 }
 
 /// Lists an object that loses its name, if it exists. For want of memory nothing changes.
-pub fn list_nameless<V: Drop>(objects: &Table<V>, nameless: &mut Table<()>, object: Option<u32>) -> Result<(), AllocError>
+pub fn list_nameless<V: Drop>(
+    objects: &Table<V>,
+    nameless: &mut Table<()>,
+    object: Option<u32>,
+) -> Result<(), AllocError>
     ensures ok { OnOk result (nameless.new ≡ option_map_or (λ b. if has b objects.now then with_entry b tt nameless.old else nameless.old) object nameless.old) }
     ensures err { OnErr result (nameless.new ≡ nameless.old) }
 {

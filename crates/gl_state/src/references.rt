@@ -88,5 +88,7 @@ pub fn is_bound_texture(contexts: &Table<Context>, texture: u32) -> bool
 pub fn is_bound_renderbuffer(contexts: &Table<Context>, renderbuffer: u32) -> bool
     ensures { result ≡ any_value (λ c. same_option c.renderbuffer (Some renderbuffer) || attaches (Attached.Renderbuffer renderbuffer) c) contexts.now }
 {
-    contexts.iter().any(|e| refers_to_renderbuffer(e.1, renderbuffer))
+    contexts
+        .iter()
+        .any(|e| refers_to_renderbuffer(e.1, renderbuffer))
 }

@@ -10,8 +10,8 @@ ghost use Rattle.gl_state.specs.Ended.{AreGone};
 use crate::bindings::unbound;
 use crate::contexts::current_number;
 use crate::framebuffers::detach_from_bound;
-use crate::names::{list_nameless, make_object, object_of};
 use crate::nameless::Ended;
+use crate::names::{list_nameless, make_object, object_of};
 use crate::state::SharedState;
 use crate::sweep::sweep;
 use gl_calls::Call;
@@ -50,7 +50,12 @@ fn unbind_in(contexts: &mut Table<Context>, number: u32, renderbuffer: Option<u3
 
 /// Binds a renderbuffer, and makes it where the name has none (OpenGL ES 3.0.6, Renderbuffer Objects). For want of memory nothing
 /// changes.
-pub fn bind_renderbuffer(alloc: Global, state: &mut SharedState, thread: u32, name: u32) -> Result<Ended, AllocError>
+pub fn bind_renderbuffer(
+    alloc: Global,
+    state: &mut SharedState,
+    thread: u32,
+    name: u32,
+) -> Result<Ended, AllocError>
     ensures ok { OnOk result (state.new ≡ group_effect state.old thread (Call.Bind BindTarget.Renderbuffer name)) }
     ensures ended { IfOk result (λ ended. AreGone state.old state.new ended) }
     ensures err { OnErr result (state.new ≡ state.old) }
@@ -59,7 +64,13 @@ pub fn bind_renderbuffer(alloc: Global, state: &mut SharedState, thread: u32, na
     let Some(number) = current_number(&state.group.contexts, thread) else {
         return Ok(ended);
     };
-    make_object(&mut state.group.renderbuffer_names, &mut state.group.renderbuffers, name, None)?;
+    make_object(
+        &mut state.group.renderbuffer_names,
+        &mut state.group.renderbuffers,
+        name,
+        None,
+    )?;
+    state.unused.renderbuffers.note_used(name);
     let bound = object_of(&state.group.renderbuffer_names, name);
     bind_in(&mut state.group.contexts, number, bound);
     sweep(&mut state.group, &mut state.nameless, &mut ended);
@@ -68,7 +79,12 @@ pub fn bind_renderbuffer(alloc: Global, state: &mut SharedState, thread: u32, na
 
 /// Deletes the name of a renderbuffer (OpenGL ES 3.0.6, Renderbuffer Objects). It is unbound in this context, and detached from its
 /// framebuffers that are bound; it lives on while something else refers to it. For want of memory nothing changes.
-pub fn delete_renderbuffer(alloc: Global, state: &mut SharedState, thread: u32, name: u32) -> Result<Ended, AllocError>
+pub fn delete_renderbuffer(
+    alloc: Global,
+    state: &mut SharedState,
+    thread: u32,
+    name: u32,
+) -> Result<Ended, AllocError>
     ensures ok { OnOk result (state.new ≡ group_effect state.old thread (Call.Delete ObjectKind.Renderbuffer name)) }
     ensures ended { IfOk result (λ ended. AreGone state.old state.new ended) }
     ensures err { OnErr result (state.new ≡ state.old) }
@@ -78,8 +94,13 @@ pub fn delete_renderbuffer(alloc: Global, state: &mut SharedState, thread: u32, 
         return Ok(ended);
     };
     let object = object_of(&state.group.renderbuffer_names, name);
-    list_nameless(&state.group.renderbuffers, &mut state.nameless.renderbuffers, object)?;
+    list_nameless(
+        &state.group.renderbuffers,
+        &mut state.nameless.renderbuffers,
+        object,
+    )?;
     state.group.renderbuffer_names.objects.remove(name);
+    state.unused.renderbuffers.note_unused(name);
     unbind_in(&mut state.group.contexts, number, object);
     sweep(&mut state.group, &mut state.nameless, &mut ended);
     Ok(ended)

@@ -81,7 +81,11 @@ pub fn tex_storage(
 {
     let mut ended = state.nameless.room(alloc, 0)?;
     let number = bound_texture(&state.group, thread);
-    set_image(&mut state.group.textures, number, new_image(format, width, height));
+    set_image(
+        &mut state.group.textures,
+        number,
+        new_image(format, width, height),
+    );
     sweep(&mut state.group, &mut state.nameless, &mut ended);
     Ok(ended)
 }

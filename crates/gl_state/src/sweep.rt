@@ -89,7 +89,11 @@ pub fn sweep(group: &mut GroupState, nameless: &mut Nameless, ended: &mut Ended)
     note_textures(&group.contexts, &nameless.textures, &mut ended.textures);
     remove_all(&mut group.textures, ended.textures.as_slice());
     remove_all(&mut nameless.textures, ended.textures.as_slice());
-    note_renderbuffers(&group.contexts, &nameless.renderbuffers, &mut ended.renderbuffers);
+    note_renderbuffers(
+        &group.contexts,
+        &nameless.renderbuffers,
+        &mut ended.renderbuffers,
+    );
     remove_all(&mut group.renderbuffers, ended.renderbuffers.as_slice());
     remove_all(&mut nameless.renderbuffers, ended.renderbuffers.as_slice());
 }

@@ -10,8 +10,8 @@ ghost use Rattle.gl_state.specs.Ended.{AreGone};
 use crate::bindings::unbound;
 use crate::contexts::current_number;
 use crate::framebuffers::detach_from_bound;
-use crate::names::{list_nameless, make_object, object_of};
 use crate::nameless::Ended;
+use crate::names::{list_nameless, make_object, object_of};
 use crate::state::SharedState;
 use crate::sweep::sweep;
 use gl_calls::Call;
@@ -50,7 +50,12 @@ fn unbind_in(contexts: &mut Table<Context>, number: u32, texture: Option<u32>)
 
 /// Binds a texture, and makes it where the name has none (OpenGL ES 3.0.6, Texture Objects). For want of memory nothing
 /// changes.
-pub fn bind_texture(alloc: Global, state: &mut SharedState, thread: u32, name: u32) -> Result<Ended, AllocError>
+pub fn bind_texture(
+    alloc: Global,
+    state: &mut SharedState,
+    thread: u32,
+    name: u32,
+) -> Result<Ended, AllocError>
     ensures ok { OnOk result (state.new ≡ group_effect state.old thread (Call.Bind BindTarget.Texture name)) }
     ensures ended { IfOk result (λ ended. AreGone state.old state.new ended) }
     ensures err { OnErr result (state.new ≡ state.old) }
@@ -59,7 +64,13 @@ pub fn bind_texture(alloc: Global, state: &mut SharedState, thread: u32, name: u
     let Some(number) = current_number(&state.group.contexts, thread) else {
         return Ok(ended);
     };
-    make_object(&mut state.group.texture_names, &mut state.group.textures, name, None)?;
+    make_object(
+        &mut state.group.texture_names,
+        &mut state.group.textures,
+        name,
+        None,
+    )?;
+    state.unused.textures.note_used(name);
     let bound = object_of(&state.group.texture_names, name);
     bind_in(&mut state.group.contexts, number, bound);
     sweep(&mut state.group, &mut state.nameless, &mut ended);
@@ -68,7 +79,12 @@ pub fn bind_texture(alloc: Global, state: &mut SharedState, thread: u32, name: u
 
 /// Deletes the name of a texture (OpenGL ES 3.0.6, Texture Objects). It is unbound in this context, and detached from its
 /// framebuffers that are bound; it lives on while something else refers to it. For want of memory nothing changes.
-pub fn delete_texture(alloc: Global, state: &mut SharedState, thread: u32, name: u32) -> Result<Ended, AllocError>
+pub fn delete_texture(
+    alloc: Global,
+    state: &mut SharedState,
+    thread: u32,
+    name: u32,
+) -> Result<Ended, AllocError>
     ensures ok { OnOk result (state.new ≡ group_effect state.old thread (Call.Delete ObjectKind.Texture name)) }
     ensures ended { IfOk result (λ ended. AreGone state.old state.new ended) }
     ensures err { OnErr result (state.new ≡ state.old) }
@@ -80,6 +96,7 @@ pub fn delete_texture(alloc: Global, state: &mut SharedState, thread: u32, name:
     let object = object_of(&state.group.texture_names, name);
     list_nameless(&state.group.textures, &mut state.nameless.textures, object)?;
     state.group.texture_names.objects.remove(name);
+    state.unused.textures.note_unused(name);
     unbind_in(&mut state.group.contexts, number, object);
     sweep(&mut state.group, &mut state.nameless, &mut ended);
     Ok(ended)

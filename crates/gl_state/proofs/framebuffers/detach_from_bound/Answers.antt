@@ -9,7 +9,9 @@ pub returns : goal.returns
 returns c =
     let before = c.args.context.now.framebuffers in
     let after = c.detach_from.new.framebuffers in
-    rw (c.detach_from-2.ensures.changed
-    ∙ changed_at-mapped c.args.context.now.read (option_map {T = Framebuffer} {U = Framebuffer} (detached c.args.image)) after (IsRising-ordered after c.detach_from-2.ensures.ordered),
-    c.detach_from.ensures.changed
-    ∙ changed_at-mapped c.args.context.now.draw (option_map {T = Framebuffer} {U = Framebuffer} (detached c.args.image)) before (IsRising-ordered before c.detach_from.ensures.ordered)) refl
+    rw (
+      c.detach_from-2.ensures.changed
+          ∙ changed_at-mapped c.args.context.now.read (option_map {T = Framebuffer} {U = Framebuffer} (detached c.args.image)) after (IsRising-ordered after c.detach_from-2.ensures.ordered),
+      c.detach_from.ensures.changed
+          ∙ changed_at-mapped c.args.context.now.draw (option_map {T = Framebuffer} {U = Framebuffer} (detached c.args.image)) before (IsRising-ordered before c.detach_from.ensures.ordered),
+    ) refl

@@ -9,5 +9,5 @@ use Rattle.gl_state.proofs.sweep.note_renderbuffers.Given as goal
 abbrev pub invariant-loop-renderbuffer : goal.invariant-loop-renderbuffer
 invariant-loop-renderbuffer l = record {
   rest : l.ended.items ++ keys_of (only (λ b. not (any_value (λ c. same_option c.renderbuffer (Some b) || attaches (Renderbuffer b) c) l.contexts)) l.renderbuffer-iterator) ≡ keys_of (only (λ b. not (any_value (λ c. same_option c.renderbuffer (Some b) || attaches (Renderbuffer b) c) l.contexts)) l.nameless);
-  room : length l.ended.items + length l.renderbuffer-iterator ≤ vec_capacity l.ended
+  room : length l.ended.items + length l.renderbuffer-iterator ≤ vec_capacity l.ended;
 }

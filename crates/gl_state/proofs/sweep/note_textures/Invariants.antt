@@ -9,5 +9,5 @@ use Rattle.gl_state.proofs.sweep.note_textures.Given as goal
 abbrev pub invariant-loop-texture : goal.invariant-loop-texture
 invariant-loop-texture l = record {
   rest : l.ended.items ++ keys_of (only (λ b. not (any_value (λ c. same_option c.texture (Some b) || attaches (Texture b) c) l.contexts)) l.texture-iterator) ≡ keys_of (only (λ b. not (any_value (λ c. same_option c.texture (Some b) || attaches (Texture b) c) l.contexts)) l.nameless);
-  room : length l.ended.items + length l.texture-iterator ≤ vec_capacity l.ended
+  room : length l.ended.items + length l.texture-iterator ≤ vec_capacity l.ended;
 }
