@@ -1,5 +1,5 @@
 -- The front that lists make: what it has at each index of the group.
-use Rattle.std.proofs.Common.{◌≡◌, ◌≢◌, ℕ, ◌+◌, ◌-◌, ◌*◌, ◌<◌, ◌≤◌, ◌⊎◌, inl, inr, true, false, cond, List, [], replicate, get_or, set, length, refl, sym, ap, ◌∙◌, arith}
+use Rattle.std.proofs.Common.{◌≡◌, ◌≢◌, ℕ, ◌+◌, ◌-◌, ◌*◌, ◌<◌, ◌≤◌, ◌⊎◌, inl, inr, true, false, List, [], replicate, get_or, length, refl, sym, ap, ◌∙◌, arith}
 use Rattle.std.specs.Prelude.{Option, None, slice_index_or, slice_set}
 use Rattle.std.proofs.lemmas.Bool.{cases_Bool, cases_eq, cases_lt, cond-true, cond-false}
 use Rattle.std.proofs.lemmas.Bool.Decides.{nat_tests}
@@ -13,7 +13,7 @@ use Rattle.back_core.specs.Needs.{IsOfGroup}
 use Rattle.front_model.specs.Face.{Object, Buffer, Texture, Renderbuffer, Stored, Face}
 use Rattle.front_model.specs.Stands.{new_face}
 use Rattle.front_model.specs.Steps.{flushed}
-use Rattle.front_model.proofs.Base.{put-same, put-other, put_at}
+use Rattle.front_model.proofs.Base.{put-other, put_at}
 use Rattle.front_model.proofs.LinkSteps.{own_or_not}
 use Rattle.front_core.specs.Buffers.{objects_of}
 use Rattle.front_core.specs.Core.{CoreParts, last_in, pending_in, face}

@@ -1,20 +1,22 @@
 -- What a flush comes to.
-use Rattle.std.proofs.Common.{◌≡◌, ℕ, ◌+◌, ◌*◌, ◌<◌, List, [], ◌∷◌, ◌++◌, length, refl, sym, ap, subst, ◌∙◌, arith, append-nil, inl, inr}
-use Rattle.std.specs.Prelude.{slice_index_or, slice_set}
+use Rattle.std.proofs.Common.{◌≡◌, ℕ, ◌+◌, ◌*◌, List, [], ◌∷◌, ◌++◌, length, refl, sym, ap, subst, ◌∙◌, arith, append-nil, inl, inr}
+use Rattle.std.specs.Prelude.{slice_index_or}
 use Rattle.std.proofs.lemmas.Bool.{cases_eq}
 use mathlib.Core.Path.{fun_ext}
 use Rattle.vk_types.specs.declared.batches.Batch.{Batch}
-use Rattle.vk_model.specs.Log.{Item, commands}
+use Rattle.vk_model.specs.Log.{commands}
+use Rattle.vk_device.specs.Order.{IsOfOneQueue}
+use Rattle.queue_serials.specs.Indexes.{last_of}
 use Rattle.back_core.specs.Own.{Enqueued, log_of}
 use Rattle.back_core.specs.Link.{Link, put, enqueued}
 use Rattle.back_core.specs.Needs.{IsOfGroup}
-use Rattle.front_model.specs.Face.{Object, Face, outline_at, view}
-use Rattle.front_model.specs.Stands.{no_hands, Holds, Moved, IsQuiet}
+use Rattle.front_model.specs.Face.{Object, Face, view}
+use Rattle.front_model.specs.Stands.{no_hands, Holds, IsQuiet}
 use Rattle.front_model.specs.Steps.{IsNextBatch, flushed}
 use Rattle.front_model.proofs.Base.{put_at, put-other}
 use Rattle.front_model.proofs.Uses.{log_then}
-use Rattle.front_core.specs.Core.{CoreParts, face, pending_in, IsFlushed, HasFlushed}
-use Rattle.front_core.proofs.Faces.{pending_at}
+use Rattle.front_core.specs.Core.{CoreParts, face, HasFlushed}
+use Rattle.front_core.proofs.Faces.{pending_at, last_own}
 
 empty_of : {X : Type 0} (xs : List X) → length xs ≡ 0 → xs ≡ []
 empty_of [] e = refl
@@ -46,3 +48,14 @@ batch_flushed f g s t index batch is_face is_link next_ holds shows stays =
       flushed = record { pending = refl; objects = refl; group = refl };
       log = log_then s.mine (Enqueued batch) ∙ ap (λ nodes. log_of s.mine ++ commands 0 nodes) next_.all;
     }))
+
+-- the next batch of an index
+pub next_batch : (c : CoreParts) (index place : ℕ) (batch : Batch) → IsOfGroup c.indexes.group index → place + 8 * c.indexes.group ≡ index →
+    batch.index ≡ index → batch.number ≡ last_of c.indexes index + 1 → batch.nodes ≡ slice_index_or c.pending place [] → IsOfOneQueue batch →
+    IsNextBatch (face c) index batch
+next_batch c index place batch own at is number nodes one = record {
+  one_queue = one;
+  of_index = is;
+  next = number ∙ ap (λ n. n + 1) (sym (last_own c.indexes index own));
+  all = nodes ∙ sym (pending_at c.indexes.group c.pending index place own at);
+}

@@ -1,6 +1,6 @@
-use Rattle.std.proofs.Common.{◌≡◌, ap, sym, subst, ◌∙◌, ◌<◌}
+use Rattle.std.proofs.Common.{ap, sym, subst, ◌∙◌, ◌<◌}
 use Rattle.front_model.specs.Stands.{no_hands}
-use Rattle.queue_serials.specs.Indexes.{last_of, with_last}
+use Rattle.queue_serials.specs.Indexes.{last_of}
 use Rattle.front_core.specs.Core.{face}
 use Rattle.front_core.proofs.Faces.{last_own, face_flushed}
 use Rattle.front_core.proofs.Flushing.{nothing_flushed, batch_flushed}
