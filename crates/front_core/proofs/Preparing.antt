@@ -1,8 +1,8 @@
 -- What it comes to that a context is flushed only where something that is pending in it touches a buffer.
-use Rattle.std.proofs.Common.{◌≡◌, ◌≢◌, ℕ, ◌+◌, ◌*◌, ◌<◌, ◌≤◌, Bool, true, false, cond, List, [], refl, sym, ap, subst, ◌∙◌, arith, inl, inr}
+use Rattle.std.proofs.Common.{◌≡◌, ◌≢◌, not, nat_eq, ℕ, ◌+◌, ◌*◌, ◌<◌, ◌≤◌, Bool, true, false, cond, List, [], refl, sym, ap, subst, ◌∙◌, arith, inl, inr}
 use Rattle.std.specs.Prelude.{◌⊎◌, Option, Some, None, IfSome, nat_lt, Result, Ok, Err, OnOk}
 use Rattle.std.specs.Option.{option_map}
-use Rattle.std.proofs.lemmas.Bool.{cases_Bool, cases_eq, cases_lt, cond-true, cond-false}
+use Rattle.std.proofs.lemmas.Bool.{cases_Bool, cases_eq, cases_lt, cond-true, cond-false, ne_eqb}
 use Rattle.std.proofs.lemmas.Bool.Decides.{nat_tests}
 use Rattle.vk_types.specs.declared.stops.Stop.{Stop}
 use Rattle.vk_device.specs.Faults.{HasCause}
@@ -153,3 +153,9 @@ all_apart f s index b h apart i x ne at = go (own_or_not f.group i)
 
 pub parted_more : (f g : Face) (index b : ℕ) → OnlyFlushed f g → IsParted f index b → IsParted g index b
 parted_more f g index b some parted i x ne at = apart_more f g i b some (λ y is. parted i y ne is) x at
+
+pub same_by_test : (a b : ℕ) (test : Bool) → test ≡ not (nat_eq a b) → test ≡ false → a ≡ b
+same_by_test a b test is none = elim (cases_eq a b) [
+  | inl same ↦ same
+  | inr other ↦ let e : nat_eq a b ≡ false = ne_eqb a b other in let no : true ≡ false = sym (ap not e) ∙ sym is ∙ none in cc
+]
