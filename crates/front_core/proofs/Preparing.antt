@@ -1,5 +1,5 @@
 -- What it comes to that a context is flushed only where something that is pending in it touches a buffer.
-use Rattle.std.proofs.Common.{◌≡◌, ◌≢◌, not, nat_eq, ℕ, ◌+◌, ◌*◌, ◌<◌, ◌≤◌, Bool, true, false, cond, List, [], refl, sym, ap, subst, ◌∙◌, arith, inl, inr}
+use Rattle.std.proofs.Common.{◌≡◌, ◌≢◌, not, nat_eq, ℕ, ◌+◌, ◌*◌, ◌<◌, ◌≤◌, Bool, true, false, cond, List, [], length, refl, sym, ap, subst, ◌∙◌, arith, inl, inr}
 use Rattle.std.specs.Prelude.{◌⊎◌, Option, Some, None, IfSome, nat_lt, Result, Ok, Err, OnOk}
 use Rattle.std.specs.Option.{option_map}
 use Rattle.std.proofs.lemmas.Bool.{cases_Bool, cases_eq, cases_lt, cond-true, cond-false, ne_eqb}
@@ -159,3 +159,8 @@ same_by_test a b test is none = elim (cases_eq a b) [
   | inl same ↦ same
   | inr other ↦ let e : nat_eq a b ≡ false = ne_eqb a b other in let no : true ≡ false = sym (ap not e) ∙ sym is ∙ none in cc
 ]
+
+pub few_flushed : (f g : Face) (index : ℕ) → IsFlushed f g index → length (g.pending index) < 1024
+few_flushed f g index one =
+    let none : length (g.pending index) ≡ 0 = ap (λ p. length (p index)) one.pending ∙ ap length (put-same f.pending index []) in
+    omega arith
