@@ -21,7 +21,6 @@ use Rattle.front_model.specs.Stands.{Hands, Holds}
 use Rattle.front_model.proofs.Contents.{none_touches, nodes_leave, all_leave_unmade}
 use Rattle.front_model.proofs.Updates.{in_part}
 use Rattle.front_model.proofs.LinkViews.{then_pending, wrote_cell}
-use Rattle.front_model.proofs.LinkSteps.{created_holds}
 
 -- an item leaves what it does not touch
 own_leaves : (kinds : ℕ → Kind) (x : Own) (id : ℕ) → own_touches x id ≡ false → (c : Contents) → after_all kinds (log_by x) c id ≡ c id
@@ -36,27 +35,28 @@ mine_leave kinds (x ∷ mine) id none c =
     ∙ mine_leave kinds mine id (All-tail (λ x. own_touches x id ≡ false) x mine none) (after_all kinds (log_by x) c)
     ∙ own_leaves kinds x id (All-head (λ x. own_touches x id ≡ false) x mine none) c
 
-module _ (f : Face) (hands : Hands) (s : Link) (id : ℕ) (kind : Kind) (h : Holds f hands s) (fresh : IsFresh s id) where
-  apart : (index : ℕ) → nodes_touch (f.pending index) id ≡ false
-  apart index = all_leave_unmade s.kinds id fresh.not_made (f.pending index) (h.fits index)
+-- a handle that was just made
+pub blank_shows : (f : Face) (hands : Hands) (s : Link) (id : ℕ) (kind : Kind) → Holds f hands s → IsFresh s id → recorded f (created s id kind) id ≡ (λ p. UNDEFINED)
+blank_shows f hands s id kind h fresh =
+    let t : Link = created s id kind in
+    let apart : (index : ℕ) → nodes_touch (f.pending index) id ≡ false = λ index. all_leave_unmade s.kinds id fresh.not_made (f.pending index) (h.fits index) in
+    ap (λ (c : Contents). c id) (then_pending (kinds_of t) (log_of s.mine) (in_order f))
+    ∙ nodes_leave (kinds_of t) (in_order f) id (none_touches f.pending (indexes_of f.group) id apart) (eval (kinds_of t) (log_of s.mine))
+    ∙ mine_leave (kinds_of t) s.mine id fresh.untouched nothing
 
-  pub blank_shows : recorded f (created s id kind) id ≡ (λ p. UNDEFINED)
-  blank_shows =
-      ap (λ (c : Contents). c id) (then_pending (kinds_of (created s id kind)) (log_of s.mine) (in_order f))
-      ∙ nodes_leave (kinds_of (created s id kind)) (in_order f) id (none_touches f.pending (indexes_of f.group) id apart) (eval (kinds_of (created s id kind)) (log_of s.mine))
-      ∙ mine_leave (kinds_of (created s id kind)) s.mine id fresh.untouched nothing
-
-  pub filled_shows : (bytes : List ℕ) → length bytes ≤ the_end → recorded f (wrote (created s id kind) id 0 bytes) id ≡ cell_at bytes
-  filled_shows bytes few = fun_ext (λ i.
-      wrote_cell f _ (created s id kind) (created_holds f hands s id kind h fresh) id 0 bytes apart (omega (arith, few)) i
-      ∙ ap (λ (c : ℕ → ℕ). cond (in_part 0 (length bytes) i) (get_or bytes (i - 0) 0) (c i)) blank_shows
-      ∙ go i (cases_lt i (length bytes)))
-    where
-      go : (i : ℕ) → (i < length bytes) ⊎ (length bytes ≤ i) → cond (in_part 0 (length bytes) i) (get_or bytes (i - 0) 0) UNDEFINED ≡ cell_at bytes i
-      go i (inl lt) =
-          let here : in_part 0 (length bytes) i ≡ true = grind (arith, nat_tests) in
-          let at : i - 0 ≡ i = omega arith in
-          ap (λ b. cond b (get_or bytes (i - 0) 0) UNDEFINED) here ∙ ap (λ j. get_or bytes j 0) at ∙ get_or_default bytes i 0 UNDEFINED lt
-      go i (inr le) =
-          let past : in_part 0 (length bytes) i ≡ false = grind (arith, nat_tests) in
-          ap (λ b. cond b (get_or bytes (i - 0) 0) UNDEFINED) past ∙ sym (get_or_past bytes i UNDEFINED le)
+-- and what the host writes to its start
+pub filled_shows : (f : Face) (hands : Hands) (s : Link) (id : ℕ) (bytes : List ℕ) → Holds f hands s → ((index : ℕ) → nodes_touch (f.pending index) id ≡ false) → length bytes ≤ the_end → recorded f s id ≡ (λ p. UNDEFINED) →
+    recorded f (wrote s id 0 bytes) id ≡ cell_at bytes
+filled_shows f hands s id bytes h apart few blank = fun_ext (λ i.
+    wrote_cell f hands s h id 0 bytes apart (omega (arith, few)) i
+    ∙ ap (λ (c : ℕ → ℕ). cond (in_part 0 (length bytes) i) (get_or bytes (i - 0) 0) (c i)) blank
+    ∙ go i (cases_lt i (length bytes)))
+  where
+    go : (i : ℕ) → (i < length bytes) ⊎ (length bytes ≤ i) → cond (in_part 0 (length bytes) i) (get_or bytes (i - 0) 0) UNDEFINED ≡ cell_at bytes i
+    go i (inl lt) =
+        let here : in_part 0 (length bytes) i ≡ true = grind (arith, nat_tests) in
+        let at : i - 0 ≡ i = omega arith in
+        ap (λ b. cond b (get_or bytes (i - 0) 0) UNDEFINED) here ∙ ap (λ j. get_or bytes j 0) at ∙ get_or_default bytes i 0 UNDEFINED lt
+    go i (inr le) =
+        let past : in_part 0 (length bytes) i ≡ false = grind (arith, nat_tests) in
+        ap (λ b. cond b (get_or bytes (i - 0) 0) UNDEFINED) past ∙ sym (get_or_past bytes i UNDEFINED le)

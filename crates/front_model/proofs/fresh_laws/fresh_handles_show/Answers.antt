@@ -2,7 +2,4 @@ use Rattle.front_model.proofs.Fresh.{blank_shows, filled_shows}
 use Rattle.front_model.proofs.fresh_laws.fresh_handles_show.Goals as goal
 
 pub returns : goal.returns
-returns c = record {
-  blank = blank_shows;
-  filled = λ f hands s id kind bytes h fresh. filled_shows f hands s id kind h fresh bytes;
-}
+returns c = record { blank = blank_shows; filled = filled_shows }
