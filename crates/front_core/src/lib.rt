@@ -8,3 +8,4 @@ mod moves;
 mod pending;
 mod recording;
 mod stores;
+mod stores_come_to;
