@@ -6,8 +6,9 @@ use Rattle.std.specs.Option.{option_map}
 use Rattle.std.proofs.lemmas.Bool.{cases_eq}
 use Rattle.vk_types.specs.declared.handles.HandleId.{HandleId}
 use Rattle.vk_types.specs.declared.handles.Kind.TheVariants as kind
-use Rattle.tables.specs.Table.{Entries, entry, with_entry}
-use Rattle.gl_model.proofs.TableLaws.{entry-with_entry}
+use Rattle.vk_types.specs.declared.ops.Node.{Node}
+use Rattle.queue_serials.specs.Indexes.{IndexTable}
+use Rattle.tables.specs.Table.{Entries, entry}
 use Rattle.buffer_helper.specs.Buffers.{BufferStore}
 use Rattle.back_core.specs.Link.{Link, put, kinds_of}
 use Rattle.front_model.specs.Face.{Object, Buffer, Texture, Renderbuffer, Slot, Stored, Face, Outline, put_object, outline, outline_at, view, recorded, content_in, same_object}
@@ -79,3 +80,9 @@ face_put c d b v is each = ap face is ∙ ap (λ (os : Object → Option Stored)
 -- the outline of a store of so many bytes
 pub outline_some : (size : ℕ) → 0 < size → outline_of_size size ≡ Some (record { kind = kind.Buffer size; waiting = [] })
 outline_some size some = let e : (size == 0) ≡ false = grind (arith, rules) in ap (λ t. option_map (λ k. record { kind = k; waiting = [] }) (cond t None (Some (kind.Buffer size)))) e
+
+-- the front of a core whose buffers have changed
+pub buffers_changed : (was : CoreParts) (indexes : IndexTable) (pending : List (List Node)) (old new : Entries BufferStore) (change : Entries BufferStore → Entries BufferStore)
+    → ◌≡◌ {A = CoreParts} (record { indexes = indexes; pending = pending; buffers = old }) was → new ≡ change old → ◌≡◌ {A = CoreParts} (record { indexes = indexes; pending = pending; buffers = new }) (record was { buffers = change was.buffers })
+buffers_changed was indexes pending old new change is e =
+    ap (λ (bs : Entries BufferStore). record { indexes = indexes; pending = pending; buffers = bs }) e ∙ ap (λ (p : CoreParts). record p { buffers = change p.buffers }) is
