@@ -1,6 +1,6 @@
 -- The stores of buffers, put into them and taken out.
 use mathlib.Core.Path.{fun_ext}
-use Rattle.std.proofs.Common.{◌≡◌, ◌≢◌, ℕ, ◌+◌, ◌<◌, ◌==◌, cond, Bool, true, false, [], refl, sym, ◌∙◌, ap, subst, arith, inl, inr, rules}
+use Rattle.std.proofs.Common.{◌≡◌, ◌≢◌, ℕ, ◌+◌, ◌<◌, ◌==◌, cond, Bool, true, false, [], ◌∷◌, length, refl, sym, ◌∙◌, ap, subst, arith, inl, inr, rules}
 use Rattle.std.specs.Prelude.{◌⊎◌, Option, Some, None, List, if◌then◌else◌}
 use Rattle.std.specs.Option.{option_map}
 use Rattle.std.proofs.lemmas.Bool.{cases_eq}
@@ -86,3 +86,32 @@ pub buffers_changed : (was : CoreParts) (indexes : IndexTable) (pending : List (
     → ◌≡◌ {A = CoreParts} (record { indexes = indexes; pending = pending; buffers = old }) was → new ≡ change old → ◌≡◌ {A = CoreParts} (record { indexes = indexes; pending = pending; buffers = new }) (record was { buffers = change was.buffers })
 buffers_changed was indexes pending old new change is e =
     ap (λ (bs : Entries BufferStore). record { indexes = indexes; pending = pending; buffers = bs }) e ∙ ap (λ (p : CoreParts). record p { buffers = change p.buffers }) is
+
+-- A store that was ended, made and begun
+
+-- a buffer whose store was ended has none
+pub ended_none : (f f1 : Face) (s s1 : Link) (b : ℕ) → Moved f1 s1 (put_object (view f s) (Buffer b) (new_cells None)) (put_object (outline_at f) (Buffer b) None) (IsQuietBut f s b) → f1.objects (Buffer b) ≡ None
+ended_none f f1 s s1 b ended = no_outline (f1.objects (Buffer b)) (ap (λ (o : Object → Option Outline). o (Buffer b)) ended.outlines_are ∙ put_object-same (outline_at f) (Buffer b) None)
+
+pub stored_anew : (f f1 f2 : Face) (s s1 s2 s3 : Link) (b id size : ℕ) (bytes : Option (List ℕ)) → Moved f1 s1 (put_object (view f s) (Buffer b) (new_cells None)) (put_object (outline_at f) (Buffer b) None) (IsQuietBut f s b) → HasFresh f1 s1 s2 id size bytes
+    → Moved f2 s3 (put_object (view f1 s2) (Buffer b) (recorded f1 s2 id)) (put_object (outline_at f1) (Buffer b) (outline_of_size size)) (IsQuietBut f1 s2 b)
+    → Moved f2 s3 (put_object (view f s) (Buffer b) (new_cells bytes)) (put_object (outline_at f) (Buffer b) (outline_of_size size)) (IsQuietBut f s b)
+stored_anew f f1 f2 s s1 s2 s3 b id size bytes ended fresh begun = record {
+  holds = begun.holds;
+  view_is =
+      begun.view_is
+      ∙ ap (put_object (view f1 s2) (Buffer b)) fresh.has
+      ∙ ap (λ (v : Object → ℕ → ℕ). put_object v (Buffer b) (new_cells bytes)) (fresh.view_is ∙ ended.view_is)
+      ∙ put_object-twice (view f s) (Buffer b) (new_cells None) (new_cells bytes);
+  outlines_are =
+      begun.outlines_are
+      ∙ ap (λ (o : Object → Option Outline). put_object o (Buffer b) (outline_of_size size)) ended.outlines_are
+      ∙ put_object-twice (outline_at f) (Buffer b) None (outline_of_size size);
+  still = λ o quiet. begun.still o (fresh.still o (ended.still o quiet), quiet.1);
+}
+
+-- a store of no bytes is none
+pub stored_nothing : (f f1 : Face) (s s1 : Link) (b : ℕ) (bytes : List ℕ) → true ≡ (length bytes == 0) → Moved f1 s1 (put_object (view f s) (Buffer b) (new_cells None)) (put_object (outline_at f) (Buffer b) None) (IsQuietBut f s b)
+    → Moved f1 s1 (put_object (view f s) (Buffer b) (new_cells (Some bytes))) (put_object (outline_at f) (Buffer b) (outline_of_size (length bytes))) (IsQuietBut f s b)
+stored_nothing f f1 s s1 b [] empty ended = ended
+stored_nothing f f1 s s1 b (x ∷ bytes) empty ended = let no_way : ⊥ = grind (arith, rules) in absurd no_way
