@@ -1,23 +1,21 @@
 -- The stores of buffers, put into them and taken out.
 use mathlib.Core.Path.{fun_ext}
-use Rattle.std.proofs.Common.{◌≡◌, ◌≢◌, ℕ, ◌+◌, ◌<◌, ◌==◌, cond, Bool, true, false, [], ◌∷◌, length, refl, sym, ◌∙◌, ap, subst, arith, inl, inr, rules}
+use Rattle.std.proofs.Common.{◌≡◌, ◌≢◌, ℕ, ◌<◌, ◌==◌, cond, Bool, true, false, [], ◌∷◌, length, refl, sym, ◌∙◌, ap, arith, inl, inr, rules}
 use Rattle.std.specs.Prelude.{◌⊎◌, Option, Some, None, List, if◌then◌else◌}
 use Rattle.std.specs.Option.{option_map}
 use Rattle.std.proofs.lemmas.Bool.{cases_eq}
-use Rattle.vk_types.specs.declared.handles.HandleId.{HandleId}
 use Rattle.vk_types.specs.declared.handles.Kind.TheVariants as kind
 use Rattle.vk_types.specs.declared.ops.Node.{Node}
 use Rattle.queue_serials.specs.Indexes.{IndexTable}
 use Rattle.tables.specs.Table.{Entries, entry}
 use Rattle.buffer_helper.specs.Buffers.{BufferStore}
-use Rattle.back_core.specs.Link.{Link, put, kinds_of}
-use Rattle.front_model.specs.Face.{Object, Buffer, Texture, Renderbuffer, Slot, Stored, Face, Outline, put_object, outline, outline_at, view, recorded, content_in, same_object}
-use Rattle.front_model.specs.Stands.{Hands, no_hands, Holds, Moved, IsQuiet}
-use Rattle.front_model.specs.Steps.{fresh_slot, with_object, stored_as}
-use Rattle.front_model.specs.Wanted.{buffer_kind}
-use Rattle.front_model.proofs.Base.{put-same, put-other, put_at, cases_object, put_object-same, put_object-other}
+use Rattle.back_core.specs.Link.{Link, put}
+use Rattle.front_model.specs.Face.{Object, Buffer, Texture, Renderbuffer, Slot, Stored, Face, Outline, put_object, outline, outline_at, view, recorded, same_object}
+use Rattle.front_model.specs.Stands.{no_hands, Moved}
+use Rattle.front_model.specs.Steps.{with_object}
+use Rattle.front_model.proofs.Base.{put-other, put_at, cases_object, put_object-same, put_object-other}
 use Rattle.front_core.specs.Buffers.{stored_of, objects_of}
-use Rattle.front_core.specs.Core.{CoreParts, face, in_hand, HasFresh, IsQuietBut, outline_of_size, new_cells}
+use Rattle.front_core.specs.Core.{CoreParts, face, HasFresh, IsQuietBut, outline_of_size, new_cells}
 
 -- Hands
 

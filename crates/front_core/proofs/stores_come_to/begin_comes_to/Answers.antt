@@ -1,15 +1,12 @@
-use Rattle.std.proofs.Common.{ℕ, ◌≡◌, ◌<◌, ◌∙◌, [], Option, Some, None, sym, ap, subst, refl}
-use Rattle.vk_types.specs.declared.handles.HandleId.{HandleId}
+use Rattle.std.proofs.Common.{◌≡◌, ◌∙◌, [], Option, Some, sym, ap, subst}
 use Rattle.vk_types.specs.declared.handles.Kind.TheVariants as kind
-use Rattle.tables.specs.Table.{entry, with_entry}
+use Rattle.tables.specs.Table.{entry}
 use Rattle.gl_model.proofs.TableLaws.{entry-with_entry}
 use Rattle.buffer_helper.specs.Buffers.{BufferStore}
-use Rattle.back_core.specs.Link.{Link, put}
-use Rattle.front_model.specs.Face.{Object, Buffer, Face, Stored, put_object, outline_at, view, recorded}
+use Rattle.front_model.specs.Face.{Buffer, Face, Stored, put_object, outline_at, view, recorded}
 use Rattle.front_model.specs.Stands.{Holds, Moved, no_hands}
 use Rattle.front_model.specs.Steps.{fresh_slot, with_object, stored_as}
 use Rattle.front_model.proofs.Base.{put-same}
-use Rattle.front_core.specs.Buffers.{stored_of}
 use Rattle.front_core.specs.Core.{CoreParts, face, in_hand, IsQuietBut, outline_of_size}
 use Rattle.front_core.proofs.BufferLaws.{put-none, outline_with, face_put, outline_some}
 use Rattle.front_core.proofs.stores_come_to.begin_comes_to.Goals as goal

@@ -1,4 +1,3 @@
-use Rattle.std.proofs.Common.{ℕ, refl, ◌≡◌}
 use Rattle.vk_types.specs.declared.handles.Kind.TheVariants as kind
 use Rattle.front_model.specs.Stands.{no_hands}
 use Rattle.front_core.proofs.stores_come_to.blank_comes_to.Goals as goal

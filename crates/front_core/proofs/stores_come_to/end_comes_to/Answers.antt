@@ -1,14 +1,12 @@
-use Rattle.std.proofs.Common.{ℕ, ◌≡◌, ◌∙◌, [], Option, Some, None, sym, ap, subst, refl}
+use Rattle.std.proofs.Common.{◌≡◌, ◌∙◌, Option, Some, None, sym, ap, subst, refl}
 use Rattle.std.specs.Option.{option_map}
-use Rattle.tables.specs.Table.{entry}
-use Rattle.buffer_helper.specs.Buffers.{BufferStore}
 use Rattle.back_core.specs.Link.{Link, put, gave}
-use Rattle.front_model.specs.Face.{Object, Buffer, Face, Stored, put_object, outline_at, view, recorded}
+use Rattle.front_model.specs.Face.{Object, Buffer, Face, Stored, put_object, outline_at, view}
 use Rattle.front_model.specs.Stands.{Hands, Holds, Moved, no_hands}
 use Rattle.front_model.specs.Steps.{with_object}
 use Rattle.front_model.proofs.Base.{put-same}
 use Rattle.front_core.specs.Buffers.{stored_of}
-use Rattle.front_core.specs.Core.{CoreParts, face, IsQuietBut, new_cells}
+use Rattle.front_core.specs.Core.{face, IsQuietBut, new_cells}
 use Rattle.front_core.proofs.BufferLaws.{put-none, put_object-same_value, outline_with, face_put}
 use Rattle.front_core.proofs.stores_come_to.end_comes_to.Goals as goal
 

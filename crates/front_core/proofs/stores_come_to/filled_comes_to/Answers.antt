@@ -1,6 +1,5 @@
-use Rattle.std.proofs.Common.{ℕ, ◌≡◌, ◌∙◌, false, length, List, Some, arith}
+use Rattle.std.proofs.Common.{ℕ, ◌≡◌, ◌∙◌, length, Some, arith}
 use Rattle.vk_types.specs.declared.handles.Kind.TheVariants as kind
-use Rattle.front_model.specs.Face.{nodes_touch}
 use Rattle.front_model.specs.Stands.{no_hands}
 use Rattle.front_model.specs.Steps.{fresh_slot}
 use Rattle.front_model.proofs.Base.{put-same}

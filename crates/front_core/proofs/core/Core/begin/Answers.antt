@@ -1,5 +1,5 @@
-use Rattle.std.proofs.Common.{◌≡◌, ap, ◌∙◌, sym, []}
-use Rattle.tables.specs.Table.{Entries, with_entry}
+use Rattle.std.proofs.Common.{◌≡◌, ap, ◌∙◌, []}
+use Rattle.tables.specs.Table.{with_entry}
 use Rattle.buffer_helper.specs.Buffers.{BufferStore}
 use Rattle.front_core.specs.Core.{CoreParts, face}
 use Rattle.front_core.proofs.BufferLaws.{buffers_changed}

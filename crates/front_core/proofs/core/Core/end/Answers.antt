@@ -1,8 +1,7 @@
-use Rattle.std.proofs.Common.{◌≡◌, ap, ◌∙◌, sym, refl, ℕ, ◌==◌, Some, None}
+use Rattle.std.proofs.Common.{◌≡◌, ap, ◌∙◌, sym, refl, ℕ, ◌==◌, None}
 use Rattle.std.specs.Prelude.{if◌then◌else◌}
-use Rattle.tables.specs.Table.{Entries, entry}
-use Rattle.buffer_helper.specs.Buffers.{BufferStore}
-use Rattle.front_core.specs.Core.{CoreParts, face}
+use Rattle.tables.specs.Table.{entry}
+use Rattle.front_core.specs.Core.{CoreParts}
 use Rattle.front_core.proofs.BufferLaws.{buffers_changed}
 use Rattle.front_core.proofs.core.Core.end.Goals.{in-Some, in_default}
 use Rattle.front_core.proofs.core.Core.end.Goals as goal

@@ -1,6 +1,4 @@
-use Rattle.std.proofs.Common.{◌≡◌, length, rules}
-use Rattle.back_core.specs.Needs.{HostMay}
-use Rattle.front_model.specs.Stands.{Owns}
+use Rattle.std.proofs.Common.{length, rules}
 use Rattle.front_core.specs.Core.{face}
 use Rattle.front_core.proofs.core.Core.filled.Goals as goal
 
