@@ -7,4 +7,5 @@ mod core;
 mod moves;
 mod pending;
 mod recording;
+mod recording_comes_to;
 mod stores;

@@ -43,6 +43,7 @@ pub(crate) fn push_copy(
 ) -> Result<(), Stop>
     requires { place < 8 }
     ensures ok { OnOk result (pending.new ≡ slice_set pending.old place (slice_index_or pending.old place [] ++ fenced (record { op = op.CopyBuffer src src_at dst dst_at size }))) }
+    ensures eight { length pending.old ≡ 8 }
     ensures err { IfErr result (λ stop. stop ≡ Memory) }
 {
     let copy = Node {

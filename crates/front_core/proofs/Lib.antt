@@ -1,0 +1,4 @@
+pub mod Outcomes
+pub mod Recorded
+pub mod Recordable
+pub mod BufferStores
