@@ -36,7 +36,7 @@ store_of c index b id len has = go (entry b c.buffers) refl has.store has.handle
       where
         size : (x : BufferStore) → Some (outline (stored_of x)) ≡ Some (record { kind = kind.Buffer len; waiting = [] }) → x.size ≡ len
         size x same =
-            let kinds : kind.Buffer x.size ≡ kind.Buffer len = ap (λ (o : Outline). o.kind) (same_Some same) in
+            let kinds : kind.Buffer x.size ≡ kind.Buffer len = ap (λ (o : Outline). o.kind) (same_Some _ _ same) in
             cc
 
 -- it is an object of the front
@@ -57,7 +57,7 @@ handle_is c b q id len x distinct of is = go (cases_eq b q)
     same : b ≡ q → id.0 ≡ x.handle.0
     same e =
         let at : Some of.store ≡ Some x = sym of.is ∙ ap (λ k. entry k c.buffers) (sym e) ∙ is in
-        sym of.handle ∙ ap (λ (y : BufferStore). y.handle.0) (same_Some at)
+        sym of.handle ∙ ap (λ (y : BufferStore). y.handle.0) (same_Some _ _ at)
 
     back : id.0 ≡ x.handle.0 → b ≡ q
     back e = same_buffer b q (distinct (Buffer b) (Buffer q) (stored_of x) (stored_of of.store) (store_at c b x is) (store_at c q of.store of.is) (sym e ∙ sym of.handle))
@@ -96,7 +96,7 @@ owns_kept old new s keeps owns = record { owner = owns.owner; each = each }
     had : (b : ℕ) (x : BufferStore) → (v w : Option BufferStore) → entry b old ≡ w → v ≡ Some x → option_map (λ (x : BufferStore). x.handle) v ≡ option_map (λ (x : BufferStore). x.handle) w → (y : BufferStore) × (entry b old ≡ Some y) × (y.handle ≡ x.handle)
     had b x None w is bad same = cc
     had b x (Some v) None is at same = cc
-    had b x (Some v) (Some y) is at same = (y, is, sym (same_Some same) ∙ ap (λ (z : BufferStore). z.handle) (same_Some at))
+    had b x (Some v) (Some y) is at same = (y, is, sym (same_Some _ _ same) ∙ ap (λ (z : BufferStore). z.handle) (same_Some _ _ at))
 
     at_buffer : (b : ℕ) (v : Option BufferStore) (x : Stored) → entry b new ≡ v → option_map stored_of v ≡ Some x → StoredOwned s owns.owner (Buffer b) x
     at_buffer b None x is bad = cc
@@ -104,7 +104,7 @@ owns_kept old new s keeps owns = record { owner = owns.owner; each = each }
         let from = had b v (entry b new) (entry b old) refl is (keeps b) in
         let kept : StoredOwned s owns.owner (Buffer b) (stored_of from.0) = owns.each (Buffer b) (stored_of from.0) (ap (option_map stored_of) from.1) in
         let handle : from.0.handle.0 ≡ v.handle.0 = ap (λ (i : HandleId). i.0) from.2 in
-        subst (StoredOwned s owns.owner (Buffer b)) (same_Some at)
+        subst (StoredOwned s owns.owner (Buffer b)) (same_Some _ _ at)
         (record { held = ap s.held (sym handle) ∙ kept.held; owned = ap owns.owner (sym handle) ∙ kept.owned; waiting = λ place id w none. cc })
 
     each : (o : Object) (x : Stored) → objects_of new o ≡ Some x → StoredOwned s owns.owner o x
