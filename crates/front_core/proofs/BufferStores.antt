@@ -98,14 +98,20 @@ owns_kept old new s keeps owns = record { owner = owns.owner; each = each }
     had b x (Some v) None is at same = cc
     had b x (Some v) (Some y) is at same = (y, is, sym (same_Some _ _ same) ∙ ap (λ (z : BufferStore). z.handle) (same_Some _ _ at))
 
+    kept : (b : ℕ) (v y : BufferStore) → entry b old ≡ Some y → y.handle ≡ v.handle → StoredOwned s owns.owner (Buffer b) (stored_of v)
+    kept b v y is same =
+        let was : StoredOwned s owns.owner (Buffer b) (stored_of y) = owns.each (Buffer b) (stored_of y) (ap (option_map stored_of) is) in
+        record {
+          held = ap (λ (i : HandleId). s.held i.0) (sym same) ∙ was.held;
+          owned = ap (λ (i : HandleId). owns.owner i.0) (sym same) ∙ was.owned;
+          waiting = λ place id w none. cc;
+        }
+
     at_buffer : (b : ℕ) (v : Option BufferStore) (x : Stored) → entry b new ≡ v → option_map stored_of v ≡ Some x → StoredOwned s owns.owner (Buffer b) x
     at_buffer b None x is bad = cc
     at_buffer b (Some v) x is at =
         let from = had b v (entry b new) (entry b old) refl is (keeps b) in
-        let kept : StoredOwned s owns.owner (Buffer b) (stored_of from.0) = owns.each (Buffer b) (stored_of from.0) (ap (option_map stored_of) from.1) in
-        let handle : from.0.handle.0 ≡ v.handle.0 = ap (λ (i : HandleId). i.0) from.2 in
-        subst (StoredOwned s owns.owner (Buffer b)) (same_Some _ _ at)
-        (record { held = ap s.held (sym handle) ∙ kept.held; owned = ap owns.owner (sym handle) ∙ kept.owned; waiting = λ place id w none. cc })
+        subst (StoredOwned s owns.owner (Buffer b)) (same_Some _ _ at) (kept b v from.0 from.1 from.2)
 
     each : (o : Object) (x : Stored) → objects_of new o ≡ Some x → StoredOwned s owns.owner o x
     each (Buffer b) x at = at_buffer b (entry b new) x refl at
