@@ -71,6 +71,13 @@ pub other_handle : (c : CoreParts) (q : ℕ) (id : HandleId) (len : ℕ) (o : Ob
 other_handle c q id len o x distinct of at other =
     ne_eqb id.0 x.handle (λ e. other (distinct o (Buffer q) x (stored_of of.store) at (store_at c q of.store of.is) (sym e ∙ sym of.handle)))
 
+-- that no object has the handle
+abbrev pub IsInNone : CoreParts → ℕ → Type 0
+IsInNone c id = (o : Object) (x : Stored) → (face c).objects o ≡ Some x → x.handle ≢ id
+
+pub hand_apart : (c : CoreParts) (id : HandleId) (o : Object) (x : Stored) → IsInNone c id.0 → (face c).objects o ≡ Some x → (id.0 == x.handle) ≡ false
+hand_apart c id o x none at = ne_eqb id.0 x.handle (λ e. none o x at (sym e))
+
 -- nodes may touch a range of it
 pub buffer_free : (c : CoreParts) (hands : Hands) (s : Link) (index b : ℕ) (id : HandleId) (len at size : ℕ) → Holds (face c) hands s → HasBuffer c index b id len → IsStore c b id len → 0 < size → at + size ≤ len → IsFree (face c) hands s index id at size
 buffer_free c hands s index b id len at size h has of some inside =

@@ -14,7 +14,9 @@ ghost use Rattle.front_core.specs.Core.{face, in_hand, HasStore, IsParted, IsQui
 
 use crate::core::Core;
 use crate::pending::Pending;
-use crate::recording_comes_to::{copy_comes_to, stopped_recording_comes_to};
+use crate::recording_comes_to::{
+    barrier_comes_to, copy_comes_to, stopped_recording_comes_to, upload_comes_to,
+};
 use back_core::BackLink;
 use garbage::Garbage;
 use vk_types::{Access, Barrier, HandleId, Node, Op, QueueSerial, SerialIndex, Stop};
@@ -92,6 +94,8 @@ impl Core {
         ensures err { OnErr result (Owns (face self.new).objects (L.state link.new)) }
         ensures cause { HasCause (L.faults link.old) (L.faults link.new) result }
     {
+        upload_comes_to();
+        stopped_recording_comes_to();
         let place = self.place(serial.index);
         let src = staging.handle.id();
         let dst = self.id_of(buffer);
@@ -167,6 +171,8 @@ impl Core {
         ensures err { OnErr result (Owns (face self.new).objects (L.state link.now)) }
         ensures memory { IfErr result (λ stop. stop ≡ Memory) }
     {
+        barrier_comes_to();
+        stopped_recording_comes_to();
         let _ = link;
         let place = self.place(serial.index);
         let id = self.id_of(buffer);
