@@ -2,3 +2,4 @@ pub mod Outcomes
 pub mod Recorded
 pub mod Recordable
 pub mod BufferStores
+pub mod Uploads
