@@ -25,3 +25,7 @@ pushed_then {A} xs ys zs place one two inside first second =
   where
     both : List A
     both = slice_index_or xs place [] ++ one
+
+pub from_not_ok : {T E P : Type 0} (r : Result T E) → is_ok r ≡ false → OnErr r P → P
+from_not_ok (Ok v) ok p = absurd (false≢true (sym ok))
+from_not_ok (Err e) ok p = p

@@ -9,6 +9,7 @@ use Rattle.cells.specs.Contents.{in_range}
 use Rattle.vk_types.specs.declared.handles.Kind.TheVariants as kind
 use Rattle.vk_types.specs.declared.ops.Node.{Node}
 use Rattle.vk_types.specs.declared.batches.QueueSerial.{QueueSerial}
+use Rattle.queue_serials.specs.Indexes.{IndexTable}
 use Rattle.tables.specs.Table.{Entries, entry}
 use Rattle.resource_use.specs.Uses.{number_of}
 use Rattle.resource_use.proofs.Noting.{number_of-noted}
@@ -148,3 +149,13 @@ outlines_recorded f index nodes = fun_ext (λ o. go (f.objects o))
     go : (v : Option Stored) → option_map outline (option_map (noted_store index (f.last index + 1) nodes) v) ≡ option_map outline v
     go None = refl
     go (Some b) = refl
+
+-- What was pushed and noted is recorded
+
+pub recorded_from : (old : CoreParts) (indexes : IndexTable) (was now : List (List Node)) (had have : Entries BufferStore) (place : ℕ) (nodes : List Node) (serial : QueueSerial) (touched : ℕ → Bool) →
+    record { indexes = indexes; pending = was; buffers = had } ≡ old → length was ≡ 8 → now ≡ slice_set was place (slice_index_or was place [] ++ nodes) →
+    ((b : ℕ) → entry b have ≡ cond (touched b) (option_map (with_use serial) (entry b had)) (entry b had)) →
+    IsRecorded old (record { indexes = indexes; pending = now; buffers = have }) place nodes serial touched
+recorded_from old indexes was now had have place nodes serial touched is eight pending buffers =
+    subst (λ (p : CoreParts). IsRecorded p (record { indexes = indexes; pending = now; buffers = have }) place nodes serial touched) is
+    (record { indexes = refl; eight = eight; pending = pending; buffers = buffers })
