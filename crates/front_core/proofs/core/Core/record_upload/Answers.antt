@@ -20,19 +20,19 @@ use Rattle.front_core.proofs.BufferStores.{KeepsHandles}
 use Rattle.front_core.proofs.Uploads.{hand_at}
 use Rattle.front_core.proofs.core.Core.record_upload.Given.{Over}
 use Rattle.front_core.proofs.core.Core.record_upload.Goals as goal
-use Rattle.front_core.proofs.core.Core.record_upload.Goals.{else-is_ok-via-then-is_ok+else-is_ok-2, else-is_ok-via-else-is_ok}
+use Rattle.front_core.proofs.core.Core.record_upload.Goals.{Then-is_ok-2, else-is_ok-via-then-is_ok+else-is_ok-2, else-is_ok-via-else-is_ok}
 
 -- the front after the copy
-abbrev new_parts : (g : Over) (c : goal.Then-is_ok-2 g) → CoreParts
+abbrev new_parts : (g : Over) (c : Then-is_ok-2 g) → CoreParts
 new_parts g c = record { indexes = c.self.inside.indexes; pending = c.push_copy.new.pending; buffers = c.note.new.self }
 
-next_serial : (g : Over) (c : goal.Then-is_ok-2 g) → IsNextSerial c.args.self.now c.place-place.result c.args.serial
+next_serial : (g : Over) (c : Then-is_ok-2 g) → IsNextSerial c.args.self.now c.place-place.result c.args.serial
 next_serial g c = record { group = c.requires.group; place_is = c.place-place.ensures.place; next = c.requires.next; few = c.requires.few }
 
-has_buffer : (g : Over) (c : goal.Then-is_ok-2 g) → HasBuffer c.args.self.now c.args.serial.index c.args.buffer c.id_of-dst.result c.requires.store.0
+has_buffer : (g : Over) (c : Then-is_ok-2 g) → HasBuffer c.args.self.now c.args.serial.index c.args.buffer c.id_of-dst.result c.requires.store.0
 has_buffer g c = record { handle = c.id_of-dst.ensures.handle; store = c.requires.store.1; end = c.id_of-dst.ensures.size c.requires.store.0 c.requires.store.1; parted = c.requires.parted }
 
-is_recorded : (g : Over) (c : goal.Then-is_ok-2 g) → IsRecorded c.args.self.now (new_parts g c) c.place-place.result (fenced (copy_node c.args.staging.handle 0 c.id_of-dst.result c.args.at c.args.len)) c.args.serial (λ k. k == c.args.buffer)
+is_recorded : (g : Over) (c : Then-is_ok-2 g) → IsRecorded c.args.self.now (new_parts g c) c.place-place.result (fenced (copy_node c.args.staging.handle 0 c.id_of-dst.result c.args.at c.args.len)) c.args.serial (λ k. k == c.args.buffer)
 is_recorded g c =
     recorded_from c.args.self.now c.self.inside.indexes c.self.inside.pending c.push_copy.new.pending c.self.inside.buffers c.note.new.self c.place-place.result
     (fenced (copy_node c.args.staging.handle 0 c.id_of-dst.result c.args.at c.args.len)) c.args.serial (λ k. k == c.args.buffer) c.self.view_is c.push_copy.ensures.eight
@@ -40,7 +40,7 @@ is_recorded g c =
     (from_ok c.push_copy.result (sym c.is_ok.ensures.value ∙ c.if-is_ok.true) c.push_copy.ensures.ok))
     (from_ok c.note.result (sym c.is_ok-then-is_ok.ensures.value ∙ c.if-is_ok-2.true) c.note.ensures.ok)
 
-len_end : (g : Over) (c : goal.Then-is_ok-2 g) → c.args.len ≤ the_end
+len_end : (g : Over) (c : Then-is_ok-2 g) → c.args.len ≤ the_end
 len_end g c = omega (arith, c.ranges.len.fits)
 
 pub give-requires : goal.give-requires
