@@ -1,3 +1,6 @@
+pub mod Faces
+pub mod Flushing
+pub mod Preparing
 pub mod Outcomes
 pub mod Recorded
 pub mod Recordable

@@ -1,5 +1,5 @@
 -- The front without its history, as a record of plain values.
-use Rattle.std.specs.Prelude.{◌≡◌, ◌≢◌, ℕ, ◌+◌, ◌-◌, ◌≤◌, ◌*◌, ◌==◌, ◌⊎◌, false, if◌then◌else◌, Option, Some, None, List, [], ◌∷◌, ◌++◌, slice_index_or}
+use Rattle.std.specs.Prelude.{◌≡◌, ◌≢◌, ℕ, ◌-◌, ◌≤◌, ◌*◌, ◌⊎◌, false, if◌then◌else◌, Option, Some, None, List, [], ◌∷◌, ◌++◌, slice_index_or}
 use Rattle.std.specs.Option.{option_map}
 use Rattle.cells.specs.Contents.{UNDEFINED, cell_at, in_range}
 use Rattle.vk_types.specs.declared.handles.HandleId.{HandleId}
@@ -8,10 +8,11 @@ use Rattle.vk_types.specs.declared.ops.Node.{Node}
 use Rattle.tables.specs.Table.{Entries}
 use Rattle.queue_serials.specs.Indexes.{IndexTable, last_of}
 use Rattle.buffer_helper.specs.Buffers.{BufferStore}
+use Rattle.vk_model.specs.Log.{commands}
 use Rattle.back_core.specs.Own.{log_of, last_use, IsReadable}
 use Rattle.back_core.specs.Link.{Link, put}
 use Rattle.front_model.specs.Face.{Object, Buffer, Stored, Outline, Face, outline_at, nodes_touch, recorded, view}
-use Rattle.front_model.specs.Stands.{Hands, no_hands, Holds, IsQuiet}
+use Rattle.front_model.specs.Stands.{Hands, no_hands, Holds, Moved, IsQuiet}
 use Rattle.front_model.specs.Steps.{fresh_slot, full_barrier}
 use Rattle.front_model.specs.Wanted.{buffer_kind}
 use Rattle.front_core.specs.Buffers.{objects_of}
@@ -45,15 +46,30 @@ pub record IsFlushed (old new : Face) (index : ℕ) : Type 0 where
   pub objects : new.objects ≡ old.objects
   pub group : new.group ≡ old.group
 
+-- A context was flushed: what is shown and quiet is as before, and what was pending in it is at the end of the log.
+pub record HasFlushed (old new : Face) (before now : Link) (index : ℕ) : Type 0 where
+  pub moved : Moved new now (view old before) (outline_at old) (IsQuiet old before)
+  pub flushed : IsFlushed old new index
+  pub log : log_of now.mine ≡ log_of before.mine ++ commands 0 (old.pending index)
+
 -- some contexts were flushed, and nothing else has changed
 pub record OnlyFlushed (old new : Face) : Type 0 where
   pub pending : (i : ℕ) → (new.pending i ≡ old.pending i) ⊎ (new.pending i ≡ [])
   pub objects : new.objects ≡ old.objects
   pub group : new.group ≡ old.group
 
+-- nothing that is pending in an index touches the buffer
+abbrev pub IsApart : Face → ℕ → ℕ → Type 0
+IsApart f index b = (x : Stored) → f.objects (Buffer b) ≡ Some x → nodes_touch (f.pending index) x.handle ≡ false
+
 -- nothing that is pending in another context touches the buffer, so that this one may record a node on it
 abbrev pub IsParted : Face → ℕ → ℕ → Type 0
 IsParted f index b = (i : ℕ) (x : Stored) → i ≢ index → f.objects (Buffer b) ≡ Some x → nodes_touch (f.pending i) x.handle ≡ false
+
+-- Some contexts were flushed: what is shown and quiet is as before.
+pub record HasFlushedSome (old new : Face) (before now : Link) : Type 0 where
+  pub moved : Moved new now (view old before) (outline_at old) (IsQuiet old before)
+  pub flushed : OnlyFlushed old new
 
 -- the buffer has a store of this size, and nothing waits on it
 abbrev pub HasStore : Face → ℕ → ℕ → Type 0
