@@ -9,3 +9,4 @@ mod pending;
 mod recording;
 mod recording_comes_to;
 mod stores;
+mod stores_come_to;
