@@ -6,5 +6,6 @@ mod comes_to;
 mod core;
 mod moves;
 mod pending;
+mod reading_comes_to;
 mod recording;
 mod stores;
