@@ -1,6 +1,6 @@
 -- What the host may do with a buffer that is quiet.
 use Rattle.std.proofs.Common.{◌≡◌, ℕ, ◌+◌, ◌<◌, ◌≤◌, refl, sym, ap, subst, ◌∙◌, arith}
-use Rattle.std.specs.Prelude.{Option, Some, None, []}
+use Rattle.std.specs.Prelude.{Option, Some, None, [], Result, Ok, Err, OnOk, OnErr}
 use Rattle.std.specs.Option.{option_map}
 use Rattle.vk_types.specs.declared.handles.Kind.{Kind}
 use Rattle.vk_types.specs.declared.handles.Kind.TheVariants as kind
@@ -27,3 +27,13 @@ store_size c b len x is has =
     kind_in : Option Outline → Kind
     kind_in (Some o) = o.kind
     kind_in None = kind.Buffer 0
+
+-- Results
+
+pub on_ok_map : {A E P Q : Type 0} (r : Result A E) → (P → Q) → OnOk r P → OnOk r Q
+on_ok_map (Ok v) f p = f p
+on_ok_map (Err e) f p = tt
+
+pub on_err_map : {A E P Q : Type 0} (r : Result A E) → (P → Q) → OnErr r P → OnErr r Q
+on_err_map (Ok v) f p = tt
+on_err_map (Err e) f p = f p

@@ -9,6 +9,7 @@ ghost use Rattle.front_model.specs.Wanted.{with_bytes, with_copy};
 ghost use Rattle.front_core.specs.Core.{face, HasStore, IsQuietBut, outline_of_size, new_cells};
 
 use crate::core::Core;
+use crate::reading_comes_to::host_comes_to;
 use back_core::BackLink;
 use vk_types::{QueueSerial, Reason, SerialIndex, Stop};
 
@@ -199,6 +200,7 @@ impl Core {
         ensures err { OnErr result (Owns (face self.now).objects (L.state link.new)) }
         ensures cause { HasCause (L.faults link.old) (L.faults link.new) result }
     {
+        host_comes_to();
         match self.buffers.get(buffer) {
             Some(store) => link.read_host(store.id(), at, out),
             None => Ok(()),
@@ -223,6 +225,7 @@ impl Core {
         ensures err { OnErr result (Owns (face self.now).objects (L.state link.new)) }
         ensures cause { HasCause (L.faults link.old) (L.faults link.new) result }
     {
+        host_comes_to();
         match self.buffers.get(buffer) {
             Some(store) => link.write_host(store.id(), at, bytes),
             None => Ok(()),
