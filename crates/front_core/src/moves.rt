@@ -227,7 +227,10 @@ impl Core {
     {
         host_comes_to();
         match self.buffers.get(buffer) {
-            Some(store) => link.write_host(store.id(), at, bytes),
+            Some(store) => {
+                let _size = store.size();
+                link.write_host(store.id(), at, bytes)
+            }
             None => Ok(()),
         }
     }

@@ -5,11 +5,12 @@ ghost use Rattle.tables.specs.Table.{entry};
 ghost use Rattle.buffer_helper.specs.Buffers.{BufferStore};
 ghost use Rattle.back_core.specs.Own.{log_of, IsReadable};
 ghost use Rattle.back_core.specs.Link.{Link, contents_of, fetched, wrote};
-ghost use Rattle.back_core.specs.Needs.{HostMay};
-ghost use Rattle.front_model.specs.Face.{Buffer, put_object, outline_at, view};
+ghost use Rattle.back_core.specs.Needs.{HostMay, HasBatch};
+ghost use Rattle.back_core.specs.Answers.{Learns};
+ghost use Rattle.front_model.specs.Face.{Buffer, Stored, Face, put_object, outline_at, view};
 ghost use Rattle.front_model.specs.Stands.{Holds, Owns, Moved, IsQuiet, no_hands};
 ghost use Rattle.front_model.specs.Wanted.{with_bytes};
-ghost use Rattle.front_core.specs.Core.{CoreParts, face, HasStore};
+ghost use Rattle.front_core.specs.Core.{CoreParts, face, HasStore, IsUntouched};
 
 use front_model::{link_steps_show, quiet_objects_show, quiet_objects_stay, steps_hold, steps_may};
 
@@ -32,5 +33,18 @@ pub(crate) fn host_comes_to()
     steps_may();
     link_steps_show();
     quiet_objects_show();
+    quiet_objects_stay();
+}
+
+/// Waiting for the batches that use a buffer shows what was shown.
+pub(crate) fn waiting_comes_to()
+    ensures may { (f : Face) (s t : Link) (b index number : ℕ) (x : Stored) → Holds f no_hands s → Learns s t → IsUntouched f b →
+        f.objects (Buffer b) ≡ Some x → number ≡ x.slot.used index → 0 < number → HasBatch t index number }
+    ensures moved { (f : Face) (s t : Link) → Holds f no_hands s → Learns s t → Moved f t (view f s) (outline_at f) (IsQuiet f s) }
+    ensures owns { (f : Face) (s t : Link) → Holds f no_hands s → Learns s t → Owns f.objects t }
+{
+    steps_hold();
+    steps_may();
+    link_steps_show();
     quiet_objects_stay();
 }
