@@ -19,14 +19,18 @@ quiet_store c s b x quiet is =
     cc
 
 -- the size of the store of a buffer
-pub store_size : (c : CoreParts) (b len : ℕ) (x : BufferStore) → entry b c.buffers ≡ Some x → HasStore (face c) b len → kind.Buffer x.size ≡ kind.Buffer len
+pub store_size : (c : CoreParts) (b len : ℕ) (x : BufferStore) → entry b c.buffers ≡ Some x → HasStore (face c) b len → x.size ≡ len
 store_size c b len x is has =
     let both : Some (outline (stored_of x)) ≡ Some (record { kind = kind.Buffer len; waiting = [] }) = sym (ap (λ o. option_map outline (option_map stored_of o)) is) ∙ has in
-    ap (λ o. kind_in o) both
+    ap size_in both
   where
-    kind_in : Option Outline → Kind
-    kind_in (Some o) = o.kind
-    kind_in None = kind.Buffer 0
+    size_of : Kind → ℕ
+    size_of (kind.Buffer size) = size
+    size_of (kind.Image format width height) = 0
+
+    size_in : Option Outline → ℕ
+    size_in (Some o) = size_of o.kind
+    size_in None = 0
 
 -- Results
 

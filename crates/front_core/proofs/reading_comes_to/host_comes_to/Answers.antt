@@ -17,7 +17,7 @@ pub returns : goal.returns
 returns c = record {
   may = λ k s b at size x h quiet is has some.
     let same : stored_of x ≡ quiet.stored = quiet_store k s b x quiet is in
-    let kinds : quiet.stored.slot.kind ≡ kind.Buffer has.0 = sym (ap (λ (v : Stored). v.slot.kind) same) ∙ store_size k b has.0 x is has.1 in
+    let kinds : quiet.stored.slot.kind ≡ kind.Buffer has.0 = sym (ap (λ (v : Stored). v.slot.kind) same) ∙ ap kind.Buffer (store_size k b has.0 x is has.1) in
     subst (λ (v : Stored). HostMay s v.handle at size) (sym same) (c.steps_may.ensures.host (face k) no_hands s (Buffer b) quiet has.0 at size h kinds some has.2);
   readable = λ k s b at size x quiet is.
     subst (λ (v : Stored). IsReadable (log_of s.mine) v.handle at size) (sym (quiet_store k s b x quiet is)) (quiet.readable at size);
