@@ -8,3 +8,5 @@ pub mod Recordable
 pub mod BufferStores
 pub mod Uploads
 pub mod MovesInTurn
+pub mod Reading
+pub mod Waiting

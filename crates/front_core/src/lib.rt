@@ -9,6 +9,7 @@ mod core;
 mod map_calls;
 mod moves;
 mod pending;
+mod reading_comes_to;
 mod recording;
 mod share;
 mod state_calls;

@@ -10,6 +10,7 @@ ghost use Rattle.front_core.specs.Core.{face, HasStore, IsQuietBut, outline_of_s
 
 use crate::core::Core;
 use crate::stores_come_to::end_comes_to;
+use crate::reading_comes_to::host_comes_to;
 use back_core::BackLink;
 use vk_types::{QueueSerial, Reason, SerialIndex, Stop};
 
@@ -201,6 +202,7 @@ impl Core {
         ensures err { OnErr result (Owns (face self.now).objects (L.state link.new)) }
         ensures cause { HasCause (L.faults link.old) (L.faults link.new) result }
     {
+        host_comes_to();
         match self.buffers.get(buffer) {
             Some(store) => link.read_host(store.id(), at, out),
             None => Ok(()),
@@ -225,8 +227,12 @@ impl Core {
         ensures err { OnErr result (Owns (face self.now).objects (L.state link.new)) }
         ensures cause { HasCause (L.faults link.old) (L.faults link.new) result }
     {
+        host_comes_to();
         match self.buffers.get(buffer) {
-            Some(store) => link.write_host(store.id(), at, bytes),
+            Some(store) => {
+                let _size = store.size();
+                link.write_host(store.id(), at, bytes)
+            }
             None => Ok(()),
         }
     }
