@@ -14,10 +14,10 @@ ghost use Rattle.front_core.specs.Core.{face, in_hand, HasStore, IsParted, IsQui
 
 use crate::core::Core;
 use crate::pending::Pending;
+use crate::reading_comes_to::waiting_comes_to;
 use crate::recording_comes_to::{
     barrier_comes_to, copy_comes_to, stopped_recording_comes_to, upload_comes_to,
 };
-use crate::reading_comes_to::waiting_comes_to;
 use back_core::BackLink;
 use garbage::Garbage;
 use vk_types::{Access, Barrier, HandleId, Node, Op, QueueSerial, SerialIndex, Stop};

@@ -28,8 +28,8 @@ mod textures;
 
 pub use applied::{Applied, Switched};
 pub use bindings::{bind_buffer, delete_buffer};
-pub use contexts::current_number;
 pub use buffers::{buffer_data, map_buffer_range, unmap_buffer};
+pub use contexts::current_number;
 pub use dispatch::apply;
 pub use egl::{create_context, destroy_context, make_current};
 pub use framebuffer_calls::{

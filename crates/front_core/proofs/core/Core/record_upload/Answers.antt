@@ -64,12 +64,12 @@ pub returns-clause-err : goal.returns-clause-err
 returns-clause-err g c =
     let s : Link = g.L.BackLink.state c.args.link.now in
     let was : (b : ℕ) → option_map (λ (x : BufferStore). x.handle) (entry b c.self.inside.buffers) ≡ option_map (λ (x : BufferStore). x.handle) (entry b c.args.self.now.buffers) =
-        λ b. ap (λ (p : CoreParts). option_map (λ (x : BufferStore). x.handle) (entry b p.buffers)) c.self.view_is in
+    λ b. ap (λ (p : CoreParts). option_map (λ (x : BufferStore). x.handle) (entry b p.buffers)) c.self.view_is in
     let keeps : KeepsHandles c.args.self.now.buffers c.else-is_ok.self.buffers =
-        elim c.else-is_ok.branch [
-          | else-is_ok-via-then-is_ok+else-is_ok-2 w ↦ λ b. ap (λ (p : CoreParts). option_map (λ (x : BufferStore). x.handle) (entry b p.buffers)) w.self-is
-              ∙ ap (option_map (λ (x : BufferStore). x.handle)) (from_not_ok w.note.result (sym w.is_ok-then-is_ok.ensures.value ∙ w.if-is_ok-2.false) w.note.ensures.err b) ∙ was b
-          | else-is_ok-via-else-is_ok w ↦ λ b. ap (λ (p : CoreParts). option_map (λ (x : BufferStore). x.handle) (entry b p.buffers)) w.self-is ∙ was b
-        ] in
+    elim c.else-is_ok.branch [
+      | else-is_ok-via-then-is_ok+else-is_ok-2 w ↦ λ b. ap (λ (p : CoreParts). option_map (λ (x : BufferStore). x.handle) (entry b p.buffers)) w.self-is
+          ∙ ap (option_map (λ (x : BufferStore). x.handle)) (from_not_ok w.note.result (sym w.is_ok-then-is_ok.ensures.value ∙ w.if-is_ok-2.false) w.note.ensures.err b) ∙ was b
+      | else-is_ok-via-else-is_ok w ↦ λ b. ap (λ (p : CoreParts). option_map (λ (x : BufferStore). x.handle) (entry b p.buffers)) w.self-is ∙ was b
+    ] in
     subst (Owns (face c.else-is_ok.self).objects) (sym c.abandon.ensures.state)
     (c.stopped_recording_comes_to.ensures.lets_go c.args.self.now c.else-is_ok.self s c.args.staging.handle.0 c.args.len c.requires.holds keeps)
