@@ -111,9 +111,9 @@ keys_from (suc m) (e ∷ t) a rising low high =
       | inl same ↦
           let here : has a (e ∷ t) ≡ true = ap (λ k. has k (e ∷ t)) (sym same) ∙ has_first e t in
           let rest : keys_of t ≡ filter (λ q. has q t) (range_with_len (a + 1) m) =
-              keys_from m t (a + 1) rising.1 (λ q below. absent_below e.0 q t (omega (arith, below, same)) rising.0) (λ q above. has_later q e t (high q (omega (arith, above)))) in
+          keys_from m t (a + 1) rising.1 (λ q below. absent_below e.0 q t (omega (arith, below, same)) rising.0) (λ q above. has_later q e t (high q (omega (arith, above)))) in
           let others : filter (λ q. has q t) (range_with_len (a + 1) m) ≡ filter (λ q. has q (e ∷ t)) (range_with_len (a + 1) m) =
-              filter_range_same _ _ (a + 1) m (λ k from _. sym (elsewhere k (λ at. absurd (omega (arith, at, from, same))))) in
+          filter_range_same _ _ (a + 1) m (λ k from _. sym (elsewhere k (λ at. absurd (omega (arith, at, from, same))))) in
           rw here (λ i. same i ∷ (rest ∙ others) i)
       | inr differs ↦
           let past : a < e.0 = omega (arith, least, differs) in
@@ -123,8 +123,10 @@ keys_from (suc m) (e ∷ t) a rising low high =
   where
     elsewhere : (k : ℕ) → k ≢ e.0 → has k (e ∷ t) ≡ has k t
     elsewhere k differs = grind (arith, common_steps, has_cons k e t)
+
     both : has a t ≡ false → a < e.0 → ((a == e.0) || has a t) ≡ false
     both none past = grind (arith, common_steps)
+
     before : (q : ℕ) → q < a + 1 → has a (e ∷ t) ≡ false → has q (e ∷ t) ≡ false
     before q below absent =
         elim (cases_eq q a) [
@@ -163,6 +165,7 @@ any-more n c xs x = step c (list_any (λ name. n == name) xs) (n == x) ∙ ap (�
     single : (b : Bool) → (b || false) ≡ b
     single true = refl
     single false = refl
+
     step : (a b d : Bool) → ((a || b) || d) ≡ (a || (b || d))
     step true b d = refl
     step false b d = refl
@@ -210,6 +213,7 @@ Fits-outside u name used outside fits = record {
     and_true : (b : Bool) → b ≡ (b && true)
     and_true true = refl
     and_true false = refl
+
     none : (a b c d : Bool) → (a && b) ≡ false → (a && (b && not c)) ≡ (a && (b && not (c && not d)))
     none true true c d out = absurd (cc)
     none true false c d out = refl
@@ -233,6 +237,7 @@ Fits-unused u name used low high fits = record {
     and_true : (b : Bool) → b ≡ (b && true)
     and_true true = refl
     and_true false = refl
+
     all : (c : Bool) → true ≡ not (c && false)
     all true = refl
     all false = refl

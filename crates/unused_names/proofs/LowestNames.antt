@@ -115,7 +115,7 @@ first_part p a b n enough =
     ∙ take-append-le n (filter p (range_with_len 1 a)) (filter p (range_with_len (1 + a) b)) enough
 
 cases_le : (a b : ℕ) → (a ≤ b) ⊎ (b ≤ a)
-cases_le a b = elim (cases_lt a b) [ | inl below ↦ inl (omega (arith, below)) | inr above ↦ inr (omega (arith, above)) ]
+cases_le a b = elim (cases_lt a b) [ inl below ↦ inl (omega (arith, below)) | inr above ↦ inr (omega (arith, above)) ]
 
 -- the lowest of a range that has enough of them
 pub lowest_unused-first : {V : Type 0} (t : Entries V) (m n : ℕ) → n ≤ length (filter (λ name. not (has name t)) (range_with_len 1 m)) → take n (filter (λ name. not (has name t)) (range_with_len 1 m)) ≡ lowest_unused t n
@@ -167,9 +167,9 @@ lowest_unused-walked t top m n gaps found start gaps_is found_is enough =
           let all : take n gaps ≡ gaps = take_all n gaps beyond in
           let next : 1 + (top - 1) ≡ top = omega (arith, start) in
           let joined : found ≡ filter unused (range_with_len 1 (top - 1 + m)) =
-              found_is ∙ ap (λ xs. xs ++ more) (all ∙ gaps_is)
-              ∙ sym (ap (filter unused) (range-append 1 (top - 1) m) ∙ filter-append unused (range_with_len 1 (top - 1)) (range_with_len (1 + (top - 1)) m)
-              ∙ ap (λ k. filter unused (range_with_len 1 (top - 1)) ++ filter unused (range_with_len k m)) next) in
+          found_is ∙ ap (λ xs. xs ++ more) (all ∙ gaps_is)
+          ∙ sym (ap (filter unused) (range-append 1 (top - 1) m) ∙ filter-append unused (range_with_len 1 (top - 1)) (range_with_len (1 + (top - 1)) m)
+          ∙ ap (λ k. filter unused (range_with_len 1 (top - 1)) ++ filter unused (range_with_len k m)) next) in
           joined ∙ lowest_unused-found t (top - 1 + m) n (sym (ap length joined) ∙ enough)
     ]
 

@@ -24,7 +24,11 @@ pub struct UnusedNames {
 }
 
 /// Adds a name where it is not in use.
-fn add_if_unused<V: Drop>(found: &mut Vec<u32>, used: &Table<V>, name: u32) -> Result<(), AllocError>
+fn add_if_unused<V: Drop>(
+    found: &mut Vec<u32>,
+    used: &Table<V>,
+    name: u32,
+) -> Result<(), AllocError>
     ensures { OnOk result (found.new.items ≡ found.old.items ++ filter (λ n. not (has n used.now)) (name ∷ [])) }
 {
     if !used.contains_key(name) {
@@ -50,7 +54,12 @@ fn first_keys(alloc: Global, gaps: &Table<()>, wanted: usize) -> Result<Vec<u32>
 
 /// Adds the names from one on that are not in use, until there are as many as are wanted. This is want of memory where there
 /// are fewer.
-fn walk<V: Drop>(found: &mut Vec<u32>, used: &Table<V>, from: u32, wanted: usize) -> Result<(), AllocError>
+fn walk<V: Drop>(
+    found: &mut Vec<u32>,
+    used: &Table<V>,
+    from: u32,
+    wanted: usize,
+) -> Result<(), AllocError>
     requires { 0 < from }
     ensures found { OnOk result ((m : ℕ) × (found.new.items ≡ found.old.items ++ filter (λ n. not (has n used.now)) (range_with_len from m))) }
     ensures enough { OnOk result (length found.new.items ≡ wanted) }
@@ -106,7 +115,12 @@ impl UnusedNames {
     }
 
     /// The n lowest names from 1 on that are not in use. This is want of memory where there are fewer.
-    fn lowest<V: Drop>(&self, alloc: Global, used: &Table<V>, n: u32) -> Result<Vec<u32>, AllocError>
+    fn lowest<V: Drop>(
+        &self,
+        alloc: Global,
+        used: &Table<V>,
+        n: u32,
+    ) -> Result<Vec<u32>, AllocError>
         requires { Fits self.now (λ k. has k used.now) }
         ensures lowest { IfOk result (λ found. found.items ≡ lowest_unused used.now n) }
         ensures unused { IfOk result (λ found. AreUnused found.items used.now) }
@@ -165,7 +179,12 @@ impl UnusedNames {
 
     /// Puts the n lowest names from 1 on that are not in use into use, without objects, and tells them in rising order
     /// (OpenGL ES 3.0.6, Buffer Objects, GenBuffers). This is want of memory where there are fewer. Then nothing changes.
-    pub fn generate<V: Drop>(&mut self, alloc: Global, used: &mut Table<Option<V>>, n: u32) -> Result<Vec<u32>, AllocError>
+    pub fn generate<V: Drop>(
+        &mut self,
+        alloc: Global,
+        used: &mut Table<Option<V>>,
+        n: u32,
+    ) -> Result<Vec<u32>, AllocError>
         requires { Fits self.old (λ k. has k used.old) }
         ensures names { IfOk result (λ names. names.items ≡ lowest_unused used.old n) }
         ensures unused { IfOk result (λ names. AreUnused names.items used.old) }

@@ -21,6 +21,6 @@ returns-clause-unused g c =
     let gaps = keys_of-gaps c.args.self.now (λ (k : ℕ). has k c.args.used.now) c.requires c.in_ok-found.ensures.ordered in
     let m = c.in_ok-walk.ensures.found.0 in
     let lowest : c.walk.new.found.items ≡ lowest_unused c.args.used.now c.args.n =
-        lowest_unused-walked c.args.used.now c.args.self.now.top m c.args.n (keys_of c.args.self.now.gaps) c.walk.new.found.items c.requires.start gaps
-        (c.in_ok-walk.ensures.found.1 ∙ ap (λ xs. xs ++ filter unused (range_with_len c.args.self.now.top m)) c.in_ok-found.ensures.first) c.in_ok-walk.ensures.enough in
+    lowest_unused-walked c.args.used.now c.args.self.now.top m c.args.n (keys_of c.args.self.now.gaps) c.walk.new.found.items c.requires.start gaps
+    (c.in_ok-walk.ensures.found.1 ∙ ap (λ xs. xs ++ filter unused (range_with_len c.args.self.now.top m)) c.in_ok-found.ensures.first) c.in_ok-walk.ensures.enough in
     rw lowest (AreUnused-lowest c.args.used.now c.args.n)

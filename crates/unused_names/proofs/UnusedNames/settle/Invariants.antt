@@ -6,5 +6,5 @@ use Rattle.unused_names.proofs.UnusedNames.settle.Given as goal
 abbrev pub invariant-loop-k : goal.invariant-loop-k
 invariant-loop-k g l = record {
   fits : Fits l.self (λ n. has n l.used);
-  here : l.self.top ≡ l.k
+  here : l.self.top ≡ l.k;
 }
