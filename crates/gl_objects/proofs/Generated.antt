@@ -11,31 +11,9 @@ use Rattle.gl_objects.specs.declared.ids.ObjectId.{ObjectId}
 use Rattle.gl_objects.specs.declared.object.Object.{Object}
 use Rattle.gl_objects.specs.Names.{AreUnused, without_all}
 use Rattle.gl_objects.specs.Objects.{IsSound}
-use Rattle.gl_objects.proofs.LowestNames.{filter-same}
+use Rattle.unused_names.proofs.LowestNames.{filter-same}
+use Rattle.unused_names.proofs.Generated.{entry-with_generated}
 use Rattle.gl_objects.proofs.NumberedNames.{entry-each_value, each_value-with_entry}
-
-pub without-with_entry : {V : Type 0} (k : ℕ) (v : V) (t : Entries V) → has k t ≡ false → without k (with_entry k v t) ≡ t
-without-with_entry k v [] absent = rw (is_at-nat_cmp k k) (grind (arith, common_steps))
-without-with_entry k v (e ∷ t) absent = grind (arith, common_steps, is_at-nat_cmp, without-with_entry k v t)
-
-pub entry-with_generated : {V : Type 0} (ns : List ℕ) (t : Entries (Option V)) (q : ℕ) → entry q (with_generated ns t) ≡ cond (list_any (λ n. q == n) ns) (Some None) (entry q t)
-entry-with_generated [] t q = refl
-entry-with_generated (n ∷ ns) t q = entry-with_entry n q None (with_generated ns t) ∙ step (q == n) (list_any (λ m. q == m) ns) (entry-with_generated ns t q)
-  where
-    step : (a b : Bool) → entry q (with_generated ns t) ≡ cond b (Some None) (entry q t) → cond a (Some None) (entry q (with_generated ns t)) ≡ cond (a || b) (Some None) (entry q t)
-    step true b rest = refl
-    step false b rest = rest
-
-pub without_all-with_generated : {V : Type 0} (ns : List ℕ) (t : Entries (Option V)) → AreUnused ns t → without_all ns (with_generated ns t) ≡ t
-without_all-with_generated [] t unused = refl
-without_all-with_generated (n ∷ ns) t unused =
-    let absent : has n (with_generated ns t) ≡ false = ap is_some (entry-with_generated ns t n) ∙ rw unused.1 unused.0 in
-    ap (without_all ns) (without-with_entry n None (with_generated ns t) absent) ∙ without_all-with_generated ns t unused.2
-
-pub AreUnused-drop : {V : Type 0} (k : ℕ) (ns : List ℕ) (t : Entries V) → AreUnused ns t → AreUnused (drop k ns) t
-AreUnused-drop zero ns t unused = unused
-AreUnused-drop (suc k) [] t unused = tt
-AreUnused-drop (suc k) (n ∷ ns) t unused = AreUnused-drop k ns t unused.2
 
 pub each_value-with_generated : {V W : Type 0} (f : V → W) (ns : List ℕ) (t : Entries (Option V)) → each_value (option_map f) (with_generated ns t) ≡ with_generated ns (each_value (option_map f) t)
 each_value-with_generated f [] t = refl

@@ -1,6 +1,6 @@
 pub mod NumberedNames
 pub mod Sound
 pub mod SoundNames
-pub mod LowestNames
 pub mod Generated
 pub mod Laws
+pub mod SetNames

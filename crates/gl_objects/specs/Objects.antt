@@ -7,6 +7,9 @@ use Rattle.gl_model.specs.declared.state.Names.{Names}
 use Rattle.gl_model.specs.GroupEffect.{object_of}
 use Rattle.gl_objects.specs.declared.ids.ObjectId.{ObjectId}
 use Rattle.gl_objects.specs.declared.object.Object.{Object}
+use Rattle.tables.specs.Table.{has}
+use Rattle.unused_names.specs.declared.UnusedNames.{UnusedNames}
+use Rattle.unused_names.specs.Unused.{Fits}
 use Rattle.gl_objects.specs.Ids.{number_of, key_of}
 
 -- the names with their objects, by the number of objects made before each, and the objects by their places
@@ -82,3 +85,8 @@ pub record IsLawful (t : NamedObjects) : Type 0 where
   pub referenced : (key : ℕ) (o : Object) → object_at t.objects key ≡ Some o → is_unreferenced o ≡ false
   pub named : (name number : ℕ) → object_of t.names name ≡ Some number → (key : ℕ) × (holds : ℕ) × (object_at t.objects key ≡ Some (record { number = number; name = Some name; holds = holds }))
   pub listed : (key : ℕ) (o : Object) (name : ℕ) → object_at t.objects key ≡ Some o → o.name ≡ Some name → object_of t.names name ≡ Some o.number
+
+-- What holds of the parts of a table, and of what is known of unused names.
+pub record IsKept (names : Entries (Option ObjectId)) (made : ℕ) (objects : List (Option Object)) (unused : UnusedNames) : Type 0 where
+  pub sound : IsSound names made objects
+  pub fits : Fits unused (λ n. has n names)

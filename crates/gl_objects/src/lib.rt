@@ -10,7 +10,6 @@ mod object;
 mod table;
 #[cfg(test)]
 mod tests;
-mod unused;
 
 pub use ids::ObjectId;
 pub use table::NameTable;

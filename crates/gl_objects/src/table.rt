@@ -7,31 +7,32 @@ ghost use Rattle.gl_objects.specs.Objects.{existing, holds_of, name_of, changed,
 use crate::ids::ObjectId;
 use crate::names::{give_object, object_of, remove_name};
 use crate::object::{Object, existing, put_back, take_name};
-use crate::unused::{generate, lowest_unused};
 use slab::Slab;
 use std::alloc::{AllocError, Global};
-use std::collections::BTreeMap;
 use std::marker::Model;
+use tables::Table;
+use unused_names::UnusedNames;
 
 /// The names of one kind of object, and the objects that exist.
 #[derive(Drop)]
 pub struct NameTable {
-    names: BTreeMap<u32, Option<ObjectId>>,
+    names: Table<Option<ObjectId>>,
+    unused: UnusedNames,
     made: u64,
     objects: Slab<Object>,
 }
 
 impl Model for NameTable {
-    ghost use Rattle.gl_objects.specs.Objects.{NamedObjects, numbered, IsSound};
+    ghost use Rattle.gl_objects.specs.Objects.{NamedObjects, numbered, IsKept};
 
     ghost Value = { NamedObjects };
 
     ghost view = { λ t. record {
-      names = record { objects = numbered t.names.entries; made = t.made };
+      names = record { objects = numbered t.names; made = t.made };
       objects = t.objects.slots;
     } };
 
-    ghost invariant = { λ t. IsSound t.names.entries t.made t.objects.slots };
+    ghost invariant = { λ t. IsKept t.names t.made t.objects.slots t.unused };
 }
 
 impl NameTable {
@@ -40,7 +41,8 @@ impl NameTable {
         ensures { result ≡ record { names = record { objects = []; made = 0 }; objects = [] } }
     {
         NameTable {
-            names: BTreeMap::new(alloc),
+            names: Table::new(alloc),
+            unused: UnusedNames::new(alloc),
             made: 0,
             objects: Slab::new(alloc),
         }
@@ -99,9 +101,8 @@ impl NameTable {
         ensures ok { OnOk result (self.new ≡ record self.old { names = record self.old.names { objects = with_generated (lowest_unused self.old.names.objects n) self.old.names.objects } }) }
         ensures err { OnErr result (self.new ≡ self.old) }
     {
-        let found = lowest_unused(alloc, &self.names, n)?;
-        generate(&mut self.names, found.as_slice())?;
-        Ok(found)
+        let names = self.unused.generate(alloc, &mut self.names, n)?;
+        Ok(names)
     }
 
     /// Makes an object for a name other than 0 that has none. Its id was never used before. For want of memory nothing
@@ -119,6 +120,7 @@ impl NameTable {
         self.objects.reserve(1)?;
         let id = ObjectId::new(self.made, self.objects.vacant_key());
         give_object(&mut self.names, name, id)?;
+        self.unused.note_used(name);
         self.objects.insert_reserved(Object {
             number: self.made,
             name: Some(name),
@@ -136,6 +138,7 @@ impl NameTable {
         ensures objects { self.new.objects ≡ option_map_or (λ id. changed self.old.objects id without_name) result self.old.objects }
     {
         let object = remove_name(&mut self.names, name);
+        self.unused.note_unused(name);
         take_name(&mut self.objects, object);
         object
     }
@@ -145,7 +148,7 @@ impl NameTable {
         ensures { result ≡ slice_get (object_names self.now.names) k }
     {
         let mut left = k;
-        for (name, object) in &self.names {
+        for (name, object) in self.names.iter() {
             if object.is_some() {
                 if left == 0 {
                     return Some(*name);

@@ -1,5 +1,5 @@
 -- The context that is current on a thread, by its number.
-use Rattle.std.proofs.Common.{inl, inr, ◌<◌, ◌≡◌, ℕ, ◌==◌, Bool, true, false, cond, Option, Some, None, [], ◌∷◌, sym, ap, ◌∙◌, refl, arith}
+use Rattle.std.proofs.Common.{inl, inr, ◌<◌, ◌≡◌, ℕ, false, Option, Some, None, [], ◌∷◌, sym, ap, ◌∙◌, refl, arith}
 use Rattle.std.specs.Option.{option_map, option_map_or}
 use Rattle.std.proofs.lemmas.Grind.{common_steps}
 use Rattle.gl_calls.specs.declared.call.Call.{Call}
@@ -9,11 +9,11 @@ use Rattle.gl_model.proofs.TableLaws.{is_at-nat_cmp}
 use Rattle.gl_model.specs.declared.state.Context.{Context}
 use Rattle.gl_model.specs.declared.state.GroupState.{GroupState}
 use Rattle.gl_model.specs.Bindings.{current_entry, same_option}
-use Rattle.gl_model.specs.GroupEffect.{swept, group_effect, gl_change, gl_change_in}
+use Rattle.gl_model.specs.GroupEffect.{swept, group_effect, gl_change}
 use Rattle.gl_state.specs.Order.{IsRising, IsKept}
 use Rattle.gl_state.specs.Changes.{changed_at}
 use Rattle.gl_state.proofs.Filtered.{IsRising-with_entry}
-use Rattle.gl_state.proofs.Rising.{found_entry, changed_entry, at_head, past_head, set_head, set_past, above_absent, AreAbove-below}
+use Rattle.gl_state.proofs.Rising.{found_entry, past_head, set_head, set_past, above_absent, AreAbove-below}
 use Rattle.std.proofs.lemmas.Bool.{cases_eq, cases_lt}
 
 with_value_head : {V : Type 0} (k : ℕ) (w : V) (e : ℕ × V) (t : Entries V) → k ≡ e.0 → with_value k (e ∷ t) w ≡ (e.0, w) ∷ t

@@ -1,13 +1,11 @@
 -- What deleting a name does to the group, as its parts are changed.
-use Rattle.std.proofs.Common.{◌≡◌, ℕ, Option, Some, None, sym, ap, ◌∙◌, refl}
+use Rattle.std.proofs.Common.{◌≡◌, ℕ, Option, Some, None, refl}
 use Rattle.std.specs.Option.{option_map_or}
 use Rattle.gl_calls.specs.declared.words.ObjectKind.TheVariants as kinds
-use Rattle.tables.specs.Table.{Entries, entry, with_entry, without}
-use Rattle.gl_model.specs.declared.objects.BufferFacts.{BufferFacts}
-use Rattle.gl_model.specs.declared.state.Attachment.TheVariants.{Texture, Renderbuffer}
+use Rattle.tables.specs.Table.{with_entry}
 use Rattle.gl_model.specs.declared.state.Context.{Context}
 use Rattle.gl_model.specs.declared.state.GroupState.{GroupState}
-use Rattle.gl_model.specs.GroupEffect.{swept, delete, object_of, after_delete, without_buffer, unbound, detached_from_bound}
+use Rattle.gl_model.specs.GroupEffect.{swept, delete, object_of, after_delete, without_buffer}
 use Rattle.gl_state.specs.Changes.{changed_at, changed_buffer, without_texture, without_renderbuffer}
 
 module _ (group : GroupState) (number name : ℕ) (context : Context)

@@ -1,12 +1,12 @@
 -- The entries of a table whose keys pass a test, after a change of the table or of the test.
-use Rattle.std.proofs.Common.{◌≢◌, inl, inr, ◌≡◌, ℕ, ◌+◌, ◌<◌, ◌==◌, ◌||◌, ◌&&◌, Bool, true, false, not, cond, [], ◌∷◌, map, is_some, Option, Some, None, sym, ap, ◌∙◌, refl, arith}
+use Rattle.std.proofs.Common.{◌≢◌, inl, inr, ◌≡◌, ℕ, ◌<◌, ◌==◌, ◌||◌, ◌&&◌, Bool, true, false, cond, [], ◌∷◌, is_some, sym, ap, ◌∙◌, refl, arith}
 use Rattle.std.specs.List.{filter}
 use Rattle.std.proofs.lemmas.Bool.{cases_eq, cases_lt}
 use Rattle.std.proofs.lemmas.Grind.{common_steps}
-use Rattle.tables.specs.Table.{Entries, entry, has, with_entry, without, only, each_value}
+use Rattle.tables.specs.Table.{Entries, has, with_entry, without, only, each_value}
 use Rattle.gl_model.proofs.TableLaws.{is_at-nat_cmp}
 use Rattle.gl_state.specs.Order.{AreAbove, IsRising, key_set}
-use Rattle.gl_state.proofs.Rising.{above_absent, AreAbove-below, past_head, at_head, set_head, set_past}
+use Rattle.gl_state.proofs.Rising.{above_absent, AreAbove-below, past_head, set_head, set_past}
 use Rattle.gl_state.proofs.Tallies.{set_before, without_head, without_past}
 
 -- Rising keys

@@ -1,7 +1,6 @@
 -- What is left where the objects to which nothing refers are taken out.
-use Rattle.std.proofs.Common.{◌≢◌, inl, inr, ◌≡◌, ℕ, ◌+◌, ◌<◌, ◌==◌, ◌||◌, ◌&&◌, Bool, true, false, not, cond, List, [], ◌∷◌, map, is_some, Option, Some, None, sym, ap, ◌∙◌, refl, arith}
+use Rattle.std.proofs.Common.{◌≡◌, ℕ, ◌<◌, ◌||◌, ◌&&◌, Bool, true, false, not, cond, List, [], ◌∷◌, is_some, None, sym, ap, ◌∙◌, refl, arith}
 use Rattle.std.specs.Map.{keys_of}
-use Rattle.std.proofs.lemmas.Grind.{common_steps}
 use Rattle.tables.specs.Table.{Entries, entry, has, without, only}
 use Rattle.gl_model.specs.declared.state.Names.{Names}
 use Rattle.gl_model.specs.GroupEffect.{names_object}

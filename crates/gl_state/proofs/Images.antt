@@ -14,7 +14,7 @@ use Rattle.gl_model.specs.Bindings.{current_entry, current_context}
 use Rattle.gl_model.specs.GroupEffect.{swept, group_effect, gl_change_in, change_image, new_image}
 use Rattle.gl_model.specs.Refusal.{refusal, gl_refusal, gl_rows}
 use Rattle.gl_model.specs.RefusalRows.{Row, first_row}
-use Rattle.gl_state.specs.Order.{IsTied, key_set}
+use Rattle.gl_state.specs.Order.{IsTied}
 use Rattle.gl_state.specs.Ended.{gone}
 use Rattle.gl_state.specs.Changes.{bound_texture_number, bound_renderbuffer_number}
 use Rattle.gl_state.proofs.Rising.{changed_entry}

@@ -1,15 +1,14 @@
 -- Names and objects after a name was bound or deleted.
-use Rattle.std.proofs.Common.{inl, inr, ◌≡◌, ◌≢◌, ℕ, ◌+◌, ◌<◌, ◌≤◌, ◌==◌, ◌||◌, ◌&&◌, Bool, true, false, not, cond, List, [], ◌∷◌, map, length, is_some, Option, Some, None, sym, ap, ◌∙◌, refl, arith}
+use Rattle.std.proofs.Common.{◌≡◌, ℕ, ◌+◌, ◌≤◌, ◌==◌, ◌||◌, ◌&&◌, Bool, true, false, not, cond, [], ◌∷◌, map, length, is_some, Option, Some, None, sym, ap, ◌∙◌, refl, arith}
 use Rattle.std.specs.Option.{option_map_or}
 use Rattle.std.specs.Map.{keys_of}
-use Rattle.std.proofs.lemmas.Bool.{cases_eq, cases_lt}
 use Rattle.std.proofs.lemmas.Grind.{common_steps}
 use Rattle.tables.specs.Table.{Entries, entry, has, with_entry, without, only}
 use Rattle.gl_model.specs.declared.objects.BufferFacts.{BufferFacts}
 use Rattle.gl_model.specs.declared.state.Names.{Names}
 use Rattle.gl_model.specs.GroupEffect.{names_object, object_of, makes_object, after_bind, with_made, after_delete}
 use Rattle.gl_model.proofs.TableLaws.{is_at-nat_cmp, entry-with_entry, entry-only}
-use Rattle.gl_state.specs.Order.{IsRising, IsTied, key_set}
+use Rattle.gl_state.specs.Order.{IsTied}
 use Rattle.gl_model.specs.declared.state.GroupState.{GroupState}
 use Rattle.gl_state.specs.declared.nameless.Nameless.{Nameless}
 use Rattle.gl_state.specs.declared.nameless.Ended.{Ended}

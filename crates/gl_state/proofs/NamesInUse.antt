@@ -1,13 +1,13 @@
 -- Which names are in use after a change.
-use Rattle.std.proofs.Common.{inl, inr, ◌≡◌, ◌≢◌, ℕ, ◌<◌, ◌≤◌, ◌==◌, ◌||◌, ◌&&◌, Bool, true, false, not, cond, is_some, List, [], ◌∷◌, Option, Some, None, sym, ap, ◌∙◌, refl, arith}
+use Rattle.std.proofs.Common.{inl, inr, ◌≡◌, ℕ, ◌<◌, ◌==◌, ◌||◌, ◌&&◌, Bool, true, false, not, cond, is_some, List, [], ◌∷◌, Option, Some, None, ap, ◌∙◌, refl, arith}
 use Rattle.std.specs.Option.{option_and_then}
 use Rattle.std.specs.List.{list_any}
-use Rattle.std.proofs.lemmas.Bool.{cases_eq, cases_lt}
+use Rattle.std.proofs.lemmas.Bool.{cases_eq}
 use Rattle.std.proofs.lemmas.Grind.{common_steps}
-use Rattle.tables.specs.Table.{Entries, entry, has, with_entry, without}
+use Rattle.tables.specs.Table.{Entries, entry, has, without}
 use Rattle.gl_model.specs.declared.state.GroupState.{GroupState}
 use Rattle.gl_model.specs.declared.state.Names.{Names}
-use Rattle.gl_model.specs.GroupEffect.{swept, object_of, makes_object, after_bind, after_delete, with_generated, lowest_unused}
+use Rattle.gl_model.specs.GroupEffect.{swept, object_of, makes_object, after_bind, after_delete, with_generated}
 use Rattle.gl_model.proofs.TableLaws.{is_at-nat_cmp, entry-with_entry}
 use Rattle.unused_names.specs.declared.UnusedNames.{UnusedNames}
 use Rattle.unused_names.specs.Names.{AreUnused}
@@ -16,7 +16,7 @@ use Rattle.unused_names.proofs.Gaps.{Fits-same, Fits-same_above}
 use Rattle.unused_names.proofs.Generated.{entry-with_generated}
 use Rattle.gl_state.specs.declared.nameless.Unused.{Unused}
 use Rattle.gl_state.specs.Order.{AreAbove, IsRising, IsTied, FitNames}
-use Rattle.gl_state.proofs.Rising.{above_absent, AreAbove-below, at_head, past_head}
+use Rattle.gl_state.proofs.Rising.{above_absent}
 use Rattle.gl_state.proofs.Tallies.{without_head, without_past}
 use Rattle.gl_state.proofs.Tied.{IsTied-generated}
 

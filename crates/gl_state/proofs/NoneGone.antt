@@ -1,5 +1,5 @@
 -- Calls after which each object still exists.
-use Rattle.std.proofs.Common.{◌≡◌, ℕ, ◌==◌, ◌||◌, ℤ, Bool, true, false, not, cond, unsigned_abs, List, [], map, Option, Some, None, sym, ap, subst, ◌∙◌, refl}
+use Rattle.std.proofs.Common.{◌≡◌, ℕ, ◌==◌, ◌||◌, true, false, not, cond, unsigned_abs, [], map, Option, Some, None, sym, ap, subst, ◌∙◌, refl}
 use Rattle.std.specs.Map.{keys_of}
 use Rattle.gl_calls.specs.declared.call.Call.{Call}
 use Rattle.gl_calls.specs.declared.call.Call.TheVariants as call
@@ -11,7 +11,7 @@ use Rattle.tables.specs.Table.{Entries, has, entry, with_entry, without, only}
 use Rattle.gl_model.specs.declared.objects.BufferFacts.{BufferFacts}
 use Rattle.gl_model.specs.declared.state.Context.{Context}
 use Rattle.gl_model.specs.declared.state.GroupState.{GroupState}
-use Rattle.gl_model.specs.Bindings.{current_entry, current_context, buffer_binding}
+use Rattle.gl_model.specs.Bindings.{current_entry, buffer_binding}
 use Rattle.gl_model.specs.GroupEffect.{swept, group_effect, gl_change, gl_change_in, change_buffer, with_context, with_parameter}
 use Rattle.gl_model.specs.Refusal.{refusal}
 use Rattle.gl_state.specs.declared.nameless.Ended.{Ended}

@@ -1,14 +1,13 @@
 -- Each table's keys rise, so a change of one key is a change of all entries that have it.
-use Rattle.std.proofs.Common.{inl, inr, ◌≡◌, ℕ, ◌<◌, ◌==◌, Bool, true, false, cond, is_some, List, [], ◌∷◌, map, Option, Some, None, sym, ap, ◌∙◌, refl, arith}
-use Rattle.std.specs.Option.{option_map_or}
+use Rattle.std.proofs.Common.{inl, inr, ◌≡◌, ℕ, ◌<◌, ◌==◌, false, cond, [], ◌∷◌, map, Option, Some, None, sym, ap, ◌∙◌, refl, arith}
 use Rattle.std.specs.Ordering.{nat_cmp}
 use Rattle.std.specs.declared.cmp.Ordering.TheVariants.{Less}
 use Rattle.std.specs.List.{AllByRecursion}
 use Rattle.std.specs.List.Sorted.{IsStrictlySortedBy}
 use Rattle.std.specs.Map.{keys_of}
-use Rattle.std.proofs.lemmas.Bool.{cases_eq, cases_lt}
+use Rattle.std.proofs.lemmas.Bool.{cases_eq}
 use Rattle.std.proofs.lemmas.Grind.{common_steps}
-use Rattle.tables.specs.Table.{Entries, entry, has, with_entry, with_value, IsOrdered}
+use Rattle.tables.specs.Table.{Entries, entry, with_value, IsOrdered}
 use Rattle.gl_state.specs.Order.{AreAbove, IsRising}
 use Rattle.gl_state.specs.Changes.{changed_at}
 use Rattle.gl_state.proofs.Rising.{changed_entry, at_head, past_head}

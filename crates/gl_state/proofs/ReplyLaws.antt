@@ -1,5 +1,5 @@
 -- The reply that is told is an answer of the call.
-use Rattle.std.proofs.Common.{◌≡◌, ℕ, Option, Some, None, cond, refl}
+use Rattle.std.proofs.Common.{◌≡◌, ℕ, Option, Some, None}
 use Rattle.std.specs.Option.{option_and_then}
 use Rattle.gl_calls.specs.declared.call.Call.{Call}
 use Rattle.gl_calls.specs.declared.call.Call.TheVariants as call

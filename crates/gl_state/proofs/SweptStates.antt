@@ -1,5 +1,5 @@
 -- States after a sweep, and as a context is made.
-use Rattle.std.proofs.Common.{◌≡◌, ℕ, ◌+◌, ◌==◌, ◌||◌, ◌&&◌, Bool, true, false, not, cond, is_some, Option, Some, None, map, sym, ap, ◌∙◌, refl, arith}
+use Rattle.std.proofs.Common.{◌≡◌, ℕ, ◌==◌, ◌||◌, ◌&&◌, Bool, true, false, not, cond, is_some, Option, Some, None, sym, ap, ◌∙◌, refl, arith}
 use Rattle.std.specs.List.{filter}
 use Rattle.gl_calls.specs.declared.reply.Reply.{Reply}
 use Rattle.formats.specs.declared.errors.EglError.{EglError}

@@ -1,12 +1,12 @@
 -- How many values of a table pass a test, after a change of the table.
-use Rattle.std.proofs.Common.{◌≢◌, inl, inr, ◌≡◌, ℕ, ◌+◌, ◌<◌, ◌==◌, zero, suc, Bool, true, false, not, cond, [], ◌∷◌, length, Option, Some, None, sym, ap, ◌∙◌, refl, arith, add-zero, zero-add}
+use Rattle.std.proofs.Common.{◌≢◌, inl, inr, ◌≡◌, ℕ, ◌+◌, ◌<◌, ◌==◌, Bool, true, false, not, cond, [], ◌∷◌, length, Option, refl, arith}
 use Rattle.std.specs.Option.{option_map_or}
 use Rattle.std.specs.List.{filter}
 use Rattle.std.proofs.lemmas.Bool.{cases_eq, cases_lt}
 use Rattle.std.proofs.lemmas.Grind.{common_steps}
-use Rattle.tables.specs.Table.{Entries, entry, has, with_entry, without, any_value}
+use Rattle.tables.specs.Table.{Entries, entry, with_entry, without, any_value}
 use Rattle.gl_model.proofs.TableLaws.{is_at-nat_cmp}
-use Rattle.gl_state.specs.Order.{AreAbove, IsRising}
+use Rattle.gl_state.specs.Order.{IsRising}
 use Rattle.gl_state.proofs.Rising.{above_absent, AreAbove-below, past_head, at_head, set_head, set_past}
 
 -- how many values pass a test

@@ -1,19 +1,18 @@
 -- Names and objects stay tied as names are made and deleted.
-use Rattle.std.proofs.Common.{◌≢◌, inl, inr, ◌≡◌, ℕ, ◌+◌, ◌<◌, ◌≤◌, ◌==◌, ◌||◌, ◌&&◌, Bool, true, false, not, cond, List, [], ◌∷◌, map, is_some, Option, Some, None, sym, ap, subst, ◌∙◌, refl, arith}
-use Rattle.std.specs.Option.{option_map_or, option_and_then}
-use Rattle.std.specs.List.{filter}
-use Rattle.std.proofs.lemmas.Bool.{cases_eq, cases_lt}
+use Rattle.std.proofs.Common.{◌≢◌, inl, inr, ◌≡◌, ℕ, ◌+◌, ◌≤◌, ◌==◌, ◌||◌, ◌&&◌, Bool, true, false, not, cond, [], ◌∷◌, map, is_some, Option, Some, None, sym, ap, subst, ◌∙◌, refl, arith}
+use Rattle.std.specs.Option.{option_and_then}
+use Rattle.std.proofs.lemmas.Bool.{cases_eq}
 use Rattle.std.proofs.lemmas.Grind.{common_steps}
 use Rattle.std.specs.Ordering.{nat_cmp}
 use Rattle.std.specs.BTreeMap.{is_at}
-use Rattle.tables.specs.Table.{Entries, entry, has, with_entry, without, only, each_value}
+use Rattle.tables.specs.Table.{Entries, entry, has, with_entry, without, only}
 use Rattle.gl_model.specs.declared.state.Names.{Names}
 use Rattle.gl_model.specs.Bindings.{same_option}
-use Rattle.gl_model.specs.GroupEffect.{names_object, object_of, with_generated}
+use Rattle.gl_model.specs.GroupEffect.{names_object, object_of}
 use Rattle.gl_model.proofs.TableLaws.{entry-with_entry, entry-only}
 use Rattle.gl_state.specs.Order.{IsRising, IsTied, key_set, names_of}
 use Rattle.gl_state.proofs.Rising.{IsRising-changed}
-use Rattle.gl_state.proofs.Tallies.{tally, bit, bit_of, tally-with_entry, tally-without, any_value-tally}
+use Rattle.gl_state.proofs.Tallies.{bit, bit_of, tally-with_entry, tally-without, any_value-tally}
 use Rattle.gl_state.proofs.Filtered.{IsRising-with_entry, IsRising-without, IsRising-filter, only-with_entry_out, only-same, only-each_value, only-only, only-one_more}
 
 pub has-changed : {V W : Type 0} (g : ℕ × V → W) (b : ℕ) (t : Entries V) → has b (map (λ e. (e.0, g e)) t) ≡ has b t

@@ -1,8 +1,7 @@
 -- A state stays whole where it changes in parts.
-use Rattle.std.proofs.Common.{◌≡◌, ℕ, ◌==◌, cond, Option, Some, None, map, sym, ap, ◌∙◌, refl}
-use Rattle.tables.specs.Table.{Entries, entry}
+use Rattle.std.proofs.Common.{◌≡◌, ℕ, ◌==◌, cond, Option, Some, None, sym, refl}
+use Rattle.tables.specs.Table.{entry}
 use Rattle.gl_model.specs.declared.objects.BufferFacts.{BufferFacts}
-use Rattle.gl_model.specs.declared.state.Context.{Context}
 use Rattle.gl_model.specs.declared.state.GroupState.{GroupState}
 use Rattle.gl_state.specs.declared.nameless.Nameless.{Nameless}
 use Rattle.gl_state.specs.Order.{IsKept, IsTied, AreTied, IsWhole}

@@ -1,6 +1,6 @@
 -- What an accepted call answers and switches, as far as the state without contents tells it.
 use Rattle.std.specs.Prelude.{ℕ, ◌==◌, unsigned_abs, Bool, true, false, Option, Some, None, is_some, if◌then◌else◌, unwrap_or}
-use Rattle.std.specs.Option.{option_and_then, option_map_or}
+use Rattle.std.specs.Option.{option_and_then}
 use Rattle.formats.specs.declared.errors.EglError.TheVariants.{Success}
 use Rattle.gl_calls.specs.declared.reply.Reply.{Reply}
 use Rattle.gl_calls.specs.declared.reply.Reply.TheVariants as reply

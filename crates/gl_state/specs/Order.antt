@@ -1,5 +1,5 @@
 -- Tables whose keys rise, and what holds of each state.
-use Rattle.std.specs.Prelude.{ℕ, ◌<◌, ◌≤◌, ◌≡◌, false, not, Option, Some, None, [], ◌∷◌, length}
+use Rattle.std.specs.Prelude.{ℕ, ◌<◌, ◌≤◌, ◌≡◌, false, not, Some, [], ◌∷◌, length}
 use Rattle.std.specs.List.{filter}
 use Rattle.tables.specs.Table.{Entries, has, only, each_value}
 use Rattle.gl_model.specs.declared.state.GroupState.{GroupState}

@@ -6,7 +6,6 @@ use Rattle.gl_model.specs.declared.objects.BufferFacts.{BufferFacts}
 use Rattle.gl_model.specs.declared.state.Context.{Context}
 use Rattle.gl_model.specs.declared.state.GroupState.{GroupState}
 use Rattle.gl_model.specs.GroupEffect.{names_object, binds_buffer, with_buffer_binding}
-use Rattle.gl_state.specs.Changes.{changed_at}
 use Rattle.gl_state.proofs.Current.{current_at, no_context_effect, IsRising-changed_at}
 use Rattle.tables.specs.Table.{has}
 use Rattle.gl_state.proofs.NamesInUse.{Fits-bound, FitNames-swept}

@@ -1,4 +1,4 @@
-use Rattle.std.proofs.Common.{◌≡◌, false, refl, sym, ◌∙◌}
+use Rattle.std.proofs.Common.{◌≡◌, false, refl, sym}
 use Rattle.tables.specs.Table.{has}
 use Rattle.gl_state.proofs.Whole.{IsWhole-along}
 use Rattle.gl_state.proofs.SweptStates.{not_first, IsKept-with_new, swept-with_new}

@@ -1,4 +1,4 @@
-use Rattle.std.proofs.Common.{ℕ, ◌==◌, ◌&&◌, cond, not, Some, None, rules, tests}
+use Rattle.std.proofs.Common.{ℕ, ◌&&◌, cond, not, Some, None, rules, tests}
 use Rattle.gl_model.specs.declared.state.Context.{Context}
 use Rattle.gl_model.specs.Bindings.{same_option}
 use Rattle.gl_state.proofs.Retained.{filter_map_from_retain}

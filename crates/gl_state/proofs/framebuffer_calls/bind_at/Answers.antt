@@ -1,5 +1,5 @@
-use Rattle.std.proofs.Common.{◌≡◌, Some, sym, ap, ◌∙◌}
-use Rattle.tables.specs.Table.{entry, with_value}
+use Rattle.std.proofs.Common.{sym, ap, ◌∙◌}
+use Rattle.tables.specs.Table.{with_value}
 use Rattle.std.proofs.lemmas.Result.{on_err_weaker}
 use Rattle.gl_state.proofs.Ordered.{with_value-same}
 use Rattle.gl_state.proofs.framebuffer_calls.bind_at.Goals as goal

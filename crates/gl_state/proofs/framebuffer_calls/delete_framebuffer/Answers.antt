@@ -1,12 +1,9 @@
-use Rattle.std.proofs.Common.{◌≡◌, sym, ap, ◌∙◌, refl}
+use Rattle.std.proofs.Common.{◌≡◌, sym, ◌∙◌, refl}
 use Rattle.tables.specs.Table.{with_entry}
 use Rattle.gl_calls.specs.declared.call.Call.TheVariants as call
-use Rattle.gl_calls.specs.declared.words.BindTarget.TheVariants as targets
 use Rattle.gl_calls.specs.declared.words.ObjectKind.TheVariants as kinds
 use Rattle.gl_model.specs.declared.state.Context.{Context}
-use Rattle.gl_model.specs.Bindings.{framebuffer_name}
-use Rattle.gl_model.specs.GroupEffect.{with_point, with_framebuffer, with_framebuffer_binding, without_framebuffer, change_framebuffer}
-use Rattle.gl_state.specs.Changes.{with_draws, with_read}
+use Rattle.gl_model.specs.GroupEffect.{without_framebuffer}
 use Rattle.gl_state.proofs.Current.{current_at, no_context_effect, IsRising-changed_at}
 use Rattle.gl_state.proofs.NameChanges.{AreGone-none}
 use Rattle.gl_state.proofs.NamesInUse.{FitNames-swept}

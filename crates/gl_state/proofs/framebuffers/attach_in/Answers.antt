@@ -1,4 +1,4 @@
-use Rattle.std.proofs.Common.{ap, refl, ◌∙◌}
+use Rattle.std.proofs.Common.{refl, ◌∙◌}
 use Rattle.std.specs.Option.{option_map}
 use Rattle.gl_model.specs.declared.state.Framebuffer.{Framebuffer}
 use Rattle.gl_model.specs.GroupEffect.{with_point}

@@ -8,7 +8,6 @@ use Rattle.gl_model.specs.Bindings.{same_option}
 use Rattle.gl_model.specs.declared.state.Context.{Context}
 use Rattle.gl_model.specs.declared.state.GroupState.{GroupState}
 use Rattle.gl_model.specs.GroupEffect.{names_object, attaches}
-use Rattle.gl_state.specs.Changes.{changed_at}
 use Rattle.gl_state.proofs.Current.{current_at, no_context_effect, IsRising-changed_at}
 use Rattle.tables.specs.Table.{has}
 use Rattle.gl_state.proofs.NamesInUse.{Fits-bound, FitNames-swept}

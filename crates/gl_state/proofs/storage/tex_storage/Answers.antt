@@ -1,5 +1,5 @@
 use Rattle.std.proofs.Math.Facts.{to_z-of_z}
-use Rattle.std.proofs.Common.{◌≡◌, true, w32, sym, ap, ◌∙◌, refl}
+use Rattle.std.proofs.Common.{◌≡◌, true, w32, ◌∙◌}
 use Rattle.std.specs.Option.{option_map_or}
 use Rattle.tables.specs.Table.{has}
 use Rattle.gl_state.proofs.Images.{texture_exists, tex_storage-effect, IsTied-changed_image, gone-changed_image}

@@ -1,4 +1,4 @@
-use Rattle.std.proofs.Common.{◌≡◌, ◌+◌, ◌≤◌, ◌||◌, ◌++◌, not, length, vec_capacity, Some}
+use Rattle.std.proofs.Common.{◌≡◌, ◌+◌, ◌≤◌, ◌++◌, not, length, vec_capacity}
 use Rattle.std.specs.Map.{keys_of}
 use Rattle.tables.specs.Table.{any_value, only}
 use Rattle.gl_model.specs.GroupEffect.{binds_buffer}

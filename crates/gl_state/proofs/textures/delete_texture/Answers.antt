@@ -1,13 +1,8 @@
-use Rattle.std.proofs.Common.{◌≡◌, ℕ, ◌+◌, ◌≤◌, ◌||◌, Option, Some, None, length, sym, ap, ◌∙◌, refl, arith}
-use Rattle.std.specs.Option.{option_map_or}
-use Rattle.tables.specs.Table.{only, any_value, with_entry}
+use Rattle.std.proofs.Common.{ℕ, ◌+◌, ◌≤◌, length, sym, ◌∙◌, refl, arith}
 use Rattle.gl_calls.specs.declared.call.Call.TheVariants as call
 use Rattle.gl_calls.specs.declared.words.ObjectKind.TheVariants as kinds
-use Rattle.gl_model.specs.declared.objects.BufferFacts.{BufferFacts}
 use Rattle.gl_model.specs.declared.state.Context.{Context}
-use Rattle.gl_model.specs.declared.state.GroupState.{GroupState}
-use Rattle.gl_model.specs.GroupEffect.{swept}
-use Rattle.gl_state.specs.Changes.{changed_at, without_texture}
+use Rattle.gl_state.specs.Changes.{without_texture}
 use Rattle.gl_state.proofs.Current.{current_at, no_context_effect, IsRising-changed_if}
 use Rattle.tables.specs.Table.{has}
 use Rattle.gl_state.proofs.NamesInUse.{Fits-deleted, FitNames-swept}

@@ -7,6 +7,6 @@ use Rattle.gl_objects.proofs.table.NameTable.name_at.Goals as goal
 pub loop-name-init : goal.loop-name-init
 loop-name-init c =
     let names = λ (es : List (ℕ × Option ObjectId)). slice_get (map (λ e. e.0) (filter (λ e. is_some e.1) es)) c.args.k in
-    let given : c.into_iter-name-iterator.result ≡ c.self.inside.names.entries = c.into_iter-name-iterator.ensures.into_iter_gives.0 in
+    let given : c.into_iter-name-iterator.result ≡ c.self.inside.names = c.into_iter-name-iterator.ensures.into_iter_gives ∙ c.iter-name-items.ensures.rest in
     rw (← c.self.view_is)
-    (ap (λ numbers. slice_get numbers c.args.k) (object_names-numbered c.self.inside.names.entries c.self.inside.made) ∙ ap names (sym given))
+    (ap (λ numbers. slice_get numbers c.args.k) (object_names-numbered c.self.inside.names c.self.inside.made) ∙ ap names (sym given))
