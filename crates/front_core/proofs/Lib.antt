@@ -3,3 +3,10 @@ pub mod Flushing
 pub mod Preparing
 pub mod Reading
 pub mod Waiting
+pub mod BufferLaws
+pub mod Outcomes
+pub mod Recorded
+pub mod Recordable
+pub mod BufferStores
+pub mod Uploads
+pub mod MovesInTurn

@@ -58,9 +58,18 @@ pub record OnlyFlushed (old new : Face) : Type 0 where
   pub objects : new.objects ≡ old.objects
   pub group : new.group ≡ old.group
 
+-- nothing that is pending in an index touches the buffer
+abbrev pub IsApart : Face → ℕ → ℕ → Type 0
+IsApart f index b = (x : Stored) → f.objects (Buffer b) ≡ Some x → nodes_touch (f.pending index) x.handle ≡ false
+
 -- nothing that is pending in another context touches the buffer, so that this one may record a node on it
 abbrev pub IsParted : Face → ℕ → ℕ → Type 0
 IsParted f index b = (i : ℕ) (x : Stored) → i ≢ index → f.objects (Buffer b) ≡ Some x → nodes_touch (f.pending i) x.handle ≡ false
+
+-- Some contexts were flushed: what is shown and quiet is as before.
+pub record HasFlushedSome (old new : Face) (before now : Link) : Type 0 where
+  pub moved : Moved new now (view old before) (outline_at old) (IsQuiet old before)
+  pub flushed : OnlyFlushed old new
 
 -- the buffer has a store of this size, and nothing waits on it
 abbrev pub HasStore : Face → ℕ → ℕ → Type 0

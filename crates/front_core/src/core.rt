@@ -8,7 +8,7 @@ ghost use Rattle.back_core.specs.Link.{Link, IsNew};
 ghost use Rattle.back_core.specs.Needs.{IsOfGroup};
 ghost use Rattle.front_model.specs.Face.{Buffer, outline_at, view, nodes_touch};
 ghost use Rattle.front_model.specs.Stands.{Holds, Owns, Moved, IsQuiet, no_hands};
-ghost use Rattle.front_core.specs.Core.{face, IsFlushed, OnlyFlushed, IsParted};
+ghost use Rattle.front_core.specs.Core.{face, IsFlushed, OnlyFlushed, HasFlushedSome, IsApart, IsParted};
 
 use crate::buffers::Buffers;
 use crate::comes_to::{flush_comes_to, new_comes_to};
@@ -131,6 +131,51 @@ impl Core {
         }
     }
 
+    /// Flushes a context where something that is pending in it touches a buffer.
+    fn part<L: BackLink>(
+        &mut self,
+        link: &mut L,
+        index: SerialIndex,
+        buffer: u32,
+    ) -> Result<(), Stop>
+        requires holds { Holds (face self.old) no_hands (L.state link.old) }
+        requires group { IsOfGroup (face self.old).group index }
+        ensures some { OnOk result (HasFlushedSome (face self.old) (face self.new) (L.state link.old) (L.state link.new)) }
+        ensures apart { OnOk result (IsApart (face self.new) index buffer) }
+        ensures err { OnErr result (Owns (face self.new).objects (L.state link.new)) }
+        ensures cause { HasCause (L.faults link.old) (L.faults link.new) result }
+    {
+        if self.is_touched(index, buffer) {
+            return self.flush(link, index, Reason::Cross);
+        }
+        Ok(())
+    }
+
+    /// Flushes each other context in which something that touches a buffer is pending.
+    fn part_others<L: BackLink>(
+        &mut self,
+        link: &mut L,
+        index: SerialIndex,
+        buffer: u32,
+    ) -> Result<(), Stop>
+        requires holds { Holds (face self.old) no_hands (L.state link.old) }
+        ensures some { OnOk result (HasFlushedSome (face self.old) (face self.new) (L.state link.old) (L.state link.new)) }
+        ensures parted { OnOk result (IsParted (face self.new) index buffer) }
+        ensures err { OnErr result (Owns (face self.new).objects (L.state link.new)) }
+        ensures cause { HasCause (L.faults link.old) (L.faults link.new) result }
+    {
+        for place in 0..8u8 {
+            let other = SerialIndex::new(8 * self.group + place);
+            if other != index {
+                match self.part(link, other, buffer) {
+                    Ok(()) => {}
+                    Err(stop) => return Err(stop),
+                }
+            }
+        }
+        Ok(())
+    }
+
     /// Flushes each other context in which something that touches a buffer is pending, and this one where it is full.
     pub(crate) fn prepare<L: BackLink>(
         &mut self,
@@ -147,14 +192,12 @@ impl Core {
         ensures err { OnErr result (Owns (face self.new).objects (L.state link.new)) }
         ensures cause { HasCause (L.faults link.old) (L.faults link.new) result }
     {
-        for place in 0..8u8 {
-            let other = SerialIndex::new(8 * self.group + place);
-            if other != index && self.is_touched(other, buffer) {
-                self.flush(link, other, Reason::Cross)?;
-            }
+        match self.part_others(link, index, buffer) {
+            Ok(()) => {}
+            Err(stop) => return Err(stop),
         }
         if self.pending.len(self.place(index)) >= MOST_PENDING {
-            self.flush(link, index, Reason::Full)?;
+            return self.flush(link, index, Reason::Full);
         }
         Ok(())
     }

@@ -8,4 +8,6 @@ mod moves;
 mod pending;
 mod reading_comes_to;
 mod recording;
+mod recording_comes_to;
 mod stores;
+mod stores_come_to;

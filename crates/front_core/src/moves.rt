@@ -10,6 +10,7 @@ ghost use Rattle.front_core.specs.Core.{face, HasStore, IsQuietBut, outline_of_s
 
 use crate::core::Core;
 use crate::reading_comes_to::host_comes_to;
+use crate::stores_come_to::end_comes_to;
 use back_core::BackLink;
 use vk_types::{QueueSerial, Reason, SerialIndex, Stop};
 
@@ -147,6 +148,7 @@ impl Core {
             (put_object (outline_at (face self.old)) (Buffer buffer) None) (IsQuietBut (face self.old) (L.state link.old) buffer) }
         ensures faults { L.faults link.old ≤ L.faults link.new }
     {
+        end_comes_to();
         if let Some(store) = self.buffers.take(buffer) {
             link.give(store.into_garbage());
         }
