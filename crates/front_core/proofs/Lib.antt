@@ -10,3 +10,4 @@ pub mod Recordable
 pub mod BufferStores
 pub mod Uploads
 pub mod MovesInTurn
+pub mod Settling
