@@ -34,7 +34,7 @@ unmapped : {A B : Type 0} (f : A → B) (xs : List A) → map f xs ≡ [] → xs
 unmapped f [] e = refl
 unmapped f (x ∷ xs) e = absurd cc
 
-waiting_in : Option Outline → List Part
+abbrev waiting_in : Option Outline → List Part
 waiting_in (Some o) = o.waiting
 waiting_in None = []
 
