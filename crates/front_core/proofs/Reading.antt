@@ -1,13 +1,13 @@
 -- What the host may do with a buffer that is quiet.
-use Rattle.std.proofs.Common.{◌≡◌, ℕ, ◌+◌, ◌<◌, ◌≤◌, refl, sym, ap, subst, ◌∙◌, arith}
-use Rattle.std.specs.Prelude.{Option, Some, None, [], Result, Ok, Err, OnOk, OnErr}
+use Rattle.std.proofs.Common.{◌≡◌, ℕ, sym, ap, ◌∙◌}
+use Rattle.std.specs.Prelude.{Option, Some, None, [], Result, Ok, Err, OnErr}
 use Rattle.std.specs.Option.{option_map}
 use Rattle.vk_types.specs.declared.handles.Kind.{Kind}
 use Rattle.vk_types.specs.declared.handles.Kind.TheVariants as kind
 use Rattle.tables.specs.Table.{entry}
 use Rattle.buffer_helper.specs.Buffers.{BufferStore}
 use Rattle.back_core.specs.Link.{Link}
-use Rattle.front_model.specs.Face.{Buffer, Outline, outline, outline_at}
+use Rattle.front_model.specs.Face.{Buffer, Outline, outline}
 use Rattle.front_model.specs.Stands.{IsQuiet}
 use Rattle.front_core.specs.Buffers.{stored_of}
 use Rattle.front_core.specs.Core.{CoreParts, face, HasStore}
@@ -34,10 +34,6 @@ store_size c b len x is has =
 
 -- Results
 
-pub on_ok_map : {A E P Q : Type 0} (r : Result A E) → (P → Q) → OnOk r P → OnOk r Q
-on_ok_map (Ok v) f p = f p
-on_ok_map (Err e) f p = tt
-
-pub on_err_map : {A E P Q : Type 0} (r : Result A E) → (P → Q) → OnErr r P → OnErr r Q
-on_err_map (Ok v) f p = tt
-on_err_map (Err e) f p = f p
+pub on_err : {A E P Q : Type 0} (r : Result A E) → (P → Q) → OnErr r P → OnErr r Q
+on_err (Ok v) f p = tt
+on_err (Err e) f p = f p

@@ -1,6 +1,9 @@
 // What it comes to that the host reads and writes a buffer, on plain values.
-ghost use Rattle.std.specs.Prelude.{◌≡◌, ℕ, ◌+◌, ◌<◌, ◌≤◌, List, Some, length};
+ghost use Rattle.std.specs.Prelude.{◌≡◌, ℕ, ◌+◌, ◌<◌, ◌≤◌, List, [], ◌∷◌, ◌++◌, Some, length};
+ghost use Rattle.vk_types.specs.declared.handles.HandleId.{HandleId};
+ghost use Rattle.vk_types.specs.declared.ops.Node.{Node};
 ghost use Rattle.vk_types.specs.Touches.{the_end};
+ghost use Rattle.vk_model.specs.Log.{Item, commands};
 ghost use Rattle.tables.specs.Table.{entry};
 ghost use Rattle.buffer_helper.specs.Buffers.{BufferStore};
 ghost use Rattle.back_core.specs.Own.{log_of, IsReadable};
@@ -9,6 +12,7 @@ ghost use Rattle.back_core.specs.Needs.{HostMay, HasBatch};
 ghost use Rattle.back_core.specs.Answers.{Learns};
 ghost use Rattle.front_model.specs.Face.{Buffer, Stored, Face, put_object, outline_at, view};
 ghost use Rattle.front_model.specs.Stands.{Holds, Owns, Moved, IsQuiet, no_hands};
+ghost use Rattle.front_model.specs.Steps.{full_barrier};
 ghost use Rattle.front_model.specs.Wanted.{with_bytes};
 ghost use Rattle.front_core.specs.Core.{CoreParts, face, HasStore, IsUntouched};
 
@@ -46,5 +50,12 @@ pub(crate) fn waiting_comes_to()
     steps_hold();
     steps_may();
     link_steps_show();
+    quiet_objects_stay();
+}
+
+/// A barrier behind all that was recorded makes what nodes wrote known to the host.
+pub(crate) fn settle_comes_to()
+    ensures { (log : List Item) (nodes : List Node) (id : HandleId) (at size : ℕ) → IsReadable (log ++ commands 0 (nodes ++ full_barrier id ∷ [])) id.0 at size }
+{
     quiet_objects_stay();
 }

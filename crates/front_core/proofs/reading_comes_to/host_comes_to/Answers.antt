@@ -1,15 +1,13 @@
-use Rattle.std.proofs.Common.{◌≡◌, ◌+◌, ◌≤◌, ℕ, List, length, refl, sym, ap, subst, ◌∙◌}
+use Rattle.std.proofs.Common.{◌≡◌, refl, sym, ap, subst, ◌∙◌}
 use Rattle.vk_types.specs.declared.handles.Kind.TheVariants as kind
-use Rattle.vk_types.specs.Touches.{the_end}
-use Rattle.buffer_helper.specs.Buffers.{BufferStore}
 use Rattle.back_core.specs.Own.{log_of, IsReadable}
-use Rattle.back_core.specs.Link.{Link, contents_of, fetched, wrote}
+use Rattle.back_core.specs.Link.{contents_of, wrote}
 use Rattle.back_core.specs.Needs.{HostMay}
 use Rattle.front_model.specs.Face.{Buffer, Stored, put_object, outline_at, view}
-use Rattle.front_model.specs.Stands.{Holds, Owns, Moved, IsQuiet, no_hands}
+use Rattle.front_model.specs.Stands.{Owns, Moved, IsQuiet, no_hands}
 use Rattle.front_model.specs.Wanted.{with_bytes}
 use Rattle.front_core.specs.Buffers.{stored_of}
-use Rattle.front_core.specs.Core.{CoreParts, face}
+use Rattle.front_core.specs.Core.{face}
 use Rattle.front_core.proofs.Reading.{quiet_store, store_size}
 use Rattle.front_core.proofs.reading_comes_to.host_comes_to.Goals as goal
 

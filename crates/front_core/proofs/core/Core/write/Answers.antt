@@ -1,11 +1,12 @@
-use Rattle.std.proofs.Common.{◌≡◌, ◌+◌, ◌<◌, ◌≤◌, ℕ, Some, length, arith, sym, ap, subst, ◌∙◌}
+use Rattle.std.proofs.Common.{◌≡◌, ◌+◌, ◌<◌, ◌≤◌, Some, length, arith, sym, ap, subst, ◌∙◌}
 use Rattle.vk_types.specs.declared.handles.HandleId.{HandleId}
 use Rattle.tables.specs.Table.{entry}
 use Rattle.buffer_helper.specs.Buffers.{BufferStore}
 use Rattle.back_core.specs.Link.{Link, wrote}
 use Rattle.back_core.specs.Needs.{HostMay}
-use Rattle.front_core.specs.Core.{CoreParts, face}
-use Rattle.front_core.proofs.Reading.{store_size, on_ok_map, on_err_map}
+use Rattle.front_core.specs.Core.{CoreParts}
+use Rattle.front_core.proofs.Preparing.{on_ok}
+use Rattle.front_core.proofs.Reading.{store_size, on_err}
 use Rattle.front_core.proofs.core.Core.write.Goals as goal
 
 pub write_host-requires : goal.write_host-requires
@@ -28,10 +29,10 @@ returns-in-Some-clause-moved g c =
     let len : x.size ≡ c.requires.store.0 = store_size k c.args.buffer c.requires.store.0 x is c.requires.store.1 in
     let inside : c.args.at + length c.args.bytes.now ≤ c.requires.store.0 = c.requires.store.2 in
     let to : wrote s c.id.result.0 c.args.at c.args.bytes.now ≡ wrote s x.handle.0 c.args.at c.args.bytes.now = ap (λ (h : HandleId). wrote s h.0 c.args.at c.args.bytes.now) c.id.ensures in
-    on_ok_map c.write_host.result
+    on_ok c.write_host.result
     (λ e. c.host_comes_to.ensures.writes k s (g.L.BackLink.state c.write_host.new.self) c.args.buffer c.args.at c.args.bytes.now x c.requires.holds c.requires.quiet is (omega arith) (e ∙ to))
     c.write_host.ensures.ok
 
 pub returns-in-Some-clause-err : goal.returns-in-Some-clause-err
 returns-in-Some-clause-err g c =
-    on_err_map c.write_host.result (λ e. c.host_comes_to.ensures.owns c.args.self.now (g.L.BackLink.state c.args.link.now) (g.L.BackLink.state c.write_host.new.self) c.requires.holds e) c.write_host.ensures.err
+    on_err c.write_host.result (λ e. c.host_comes_to.ensures.owns c.args.self.now (g.L.BackLink.state c.args.link.now) (g.L.BackLink.state c.write_host.new.self) c.requires.holds e) c.write_host.ensures.err
