@@ -1,6 +1,6 @@
 -- What the tests need of a link.
-use Rattle.std.proofs.Common.{◌≡◌, ◌≢◌, ℕ, zero, suc, ◌<◌, ◌==◌, Bool, true, false, cond, List, [], ◌∷◌, ◌++◌, length, refl, sym, ap, ◌∙◌, subst, inl, inr, arith}
-use Rattle.std.specs.Prelude.{◌&&◌, ◌||◌, Option, Some, None, IfSome, All, slice_get, slice_index, replicate}
+use Rattle.std.proofs.Common.{◌≡◌, ◌≢◌, ℕ, zero, suc, ◌<◌, ◌==◌, Bool, true, false, List, [], ◌∷◌, ◌++◌, length, refl, sym, ap, ◌∙◌, subst, inl, inr, arith}
+use Rattle.std.specs.Prelude.{◌&&◌, ◌||◌, Some, None, IfSome, All, slice_get, slice_index, replicate}
 use Rattle.std.specs.List.{list_any}
 use Rattle.std.proofs.lemmas.Bool.{cases_eq, cond-true, cond-false, eq-eqb, eqb-true, ne_eqb}
 use Rattle.vk_types.specs.declared.handles.HandleId.{HandleId}
@@ -15,9 +15,9 @@ use Rattle.vk_types.specs.Accesses.{no_access, transfer_read, transfer_write}
 use Rattle.vk_types.specs.Touches.{part, whole}
 use Rattle.vk_model.specs.Fitting.{HasRange, NodeFits}
 use Rattle.vk_device.specs.Order.{IsOfOneQueue}
-use Rattle.back_core.specs.Own.{Own, HostWrote, Enqueued, log_of, batch_touches, next_number, IsReadable}
+use Rattle.back_core.specs.Own.{Own, HostWrote, Enqueued, log_of, next_number, IsReadable}
 use Rattle.back_core.specs.Link.{Link, IsNew, put, created, wrote, enqueued, gave, abandoned}
-use Rattle.back_core.specs.Needs.{IsOfGroup, IsFresh, MayTouch, MayEnqueue, MayGive}
+use Rattle.back_core.specs.Needs.{IsOfGroup, IsFresh, MayEnqueue, MayGive}
 use Rattle.back_core.specs.Answers.{Waits}
 use Rattle.back_tests.specs.Copying.{HasTwo, HasThree, copy, hand_over, copy_nodes}
 

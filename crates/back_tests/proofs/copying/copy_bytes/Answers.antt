@@ -1,7 +1,5 @@
-use Rattle.std.proofs.Common.{◌≡◌, ◌≢◌, true, ◌∷◌, [], refl, sym, ap, ◌∙◌, subst, map}
-use Rattle.vk_types.specs.declared.handles.Kind.TheVariants.{Buffer}
-use Rattle.back_core.specs.Link.{Link}
-use Rattle.back_tests.proofs.Copies.{made_held, kept_held, left_held, differs, two, three, may_second, may_third, copy_may, copy_readable}
+use Rattle.std.proofs.Common.{◌∙◌}
+use Rattle.back_tests.proofs.Copies.{copy_may, copy_readable}
 use Rattle.back_tests.proofs.copying.copy_bytes.Goals as goal
 
 pub enqueue-requires : goal.enqueue-requires

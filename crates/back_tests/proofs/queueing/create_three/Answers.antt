@@ -1,7 +1,7 @@
-use Rattle.std.proofs.Common.{◌≡◌, ◌≢◌, true, ◌∷◌, [], refl, sym, ap, ◌∙◌, subst, map}
+use Rattle.std.proofs.Common.{sym, ap, ◌∙◌}
 use Rattle.vk_types.specs.declared.handles.Kind.TheVariants.{Buffer}
 use Rattle.back_core.specs.Link.{Link}
-use Rattle.back_tests.proofs.Copies.{made_held, kept_held, left_held, differs, two, three, may_second, may_third, copy_may, copy_readable}
+use Rattle.back_tests.proofs.Copies.{made_held, kept_held, left_held, differs, three}
 use Rattle.back_tests.proofs.queueing.create_three.Goals as goal
 
 pub abandon-requires : goal.abandon-requires

@@ -1,7 +1,5 @@
-use Rattle.std.proofs.Common.{◌≡◌, ◌≢◌, true, ◌∷◌, [], refl, sym, ap, ◌∙◌, subst, map}
-use Rattle.vk_types.specs.declared.handles.Kind.TheVariants.{Buffer}
-use Rattle.back_core.specs.Link.{Link}
-use Rattle.back_tests.proofs.Copies.{made_held, kept_held, left_held, differs, two, three, may_second, may_third, copy_may, copy_readable}
+use Rattle.std.proofs.Common.{refl, ap, ◌∙◌}
+use Rattle.back_tests.proofs.Copies.{may_second, may_third}
 use Rattle.resource_use.specs.Uses.{noted}
 use Rattle.back_core.specs.Link.{gave}
 use Rattle.back_tests.proofs.queueing.give_three.Goals as goal
