@@ -1,4 +1,3 @@
 pub mod Buffers
 pub mod Core
-pub mod Share
 pub mod Recording
