@@ -1,20 +1,18 @@
 -- The stores of buffers in a front.
-use mathlib.Core.Path.{fun_ext}
-use Rattle.std.proofs.Common.{◌≡◌, ◌≢◌, ℕ, ◌+◌, ◌<◌, ◌≤◌, ◌==◌, Bool, true, false, List, [], ◌∷◌, refl, sym, ◌∙◌, ap, subst, arith, inl, inr}
-use Rattle.std.specs.Prelude.{◌⊎◌, ◌||◌, Option, Some, None, IfSome, IsSome, slice_get}
+use Rattle.std.proofs.Common.{◌≡◌, ◌≢◌, ℕ, ◌+◌, ◌<◌, ◌≤◌, ◌==◌, false, [], refl, sym, ◌∙◌, ap, subst, arith, inl, inr}
+use Rattle.std.specs.Prelude.{◌⊎◌, Option, Some, None, IfSome}
 use Rattle.std.specs.Option.{option_map}
 use Rattle.std.proofs.lemmas.Bool.{cases_eq, eq-eqb, ne_eqb}
 use Rattle.std.proofs.lemmas.Option.{same_Some}
 use Rattle.vk_types.specs.declared.handles.HandleId.{HandleId}
-use Rattle.vk_types.specs.declared.handles.Kind.{Kind}
 use Rattle.vk_types.specs.declared.handles.Kind.TheVariants as kind
 use Rattle.vk_types.specs.Touches.{the_end}
 use Rattle.vk_model.specs.Fitting.{HasRange}
 use Rattle.tables.specs.Table.{Entries, entry}
 use Rattle.buffer_helper.specs.Buffers.{BufferStore}
 use Rattle.back_core.specs.Link.{Link}
-use Rattle.front_model.specs.Face.{Object, Buffer, Texture, Renderbuffer, Waiting, Stored, Outline, outline, nodes_touch}
-use Rattle.front_model.specs.Stands.{Hands, Holds, Owner, Store, Staging, StoredOwned, Owns}
+use Rattle.front_model.specs.Face.{Object, Buffer, Texture, Renderbuffer, Stored, Outline, outline, nodes_touch}
+use Rattle.front_model.specs.Stands.{Hands, Holds, StoredOwned, Owns}
 use Rattle.front_core.specs.Buffers.{stored_of, objects_of}
 use Rattle.front_core.specs.Core.{CoreParts, face}
 use Rattle.front_core.specs.Recording.{HasBuffer}

@@ -1,15 +1,15 @@
 -- Moves one after another.
 use mathlib.Core.Path.{fun_ext}
-use Rattle.std.proofs.Common.{◌≡◌, ◌≢◌, ℕ, ◌+◌, ◌-◌, ◌<◌, ◌≤◌, Bool, true, false, cond, List, [], length, refl, sym, ◌∙◌, ap, subst, arith, inl, inr}
-use Rattle.std.specs.Prelude.{◌⊎◌, Option, Some, None, slice_index, slice_index_or, nat_le, nat_lt}
+use Rattle.std.proofs.Common.{◌≡◌, ◌≢◌, ℕ, ◌+◌, ◌-◌, ◌<◌, ◌≤◌, Bool, true, false, cond, List, [], length, refl, sym, ◌∙◌, ap, arith, inl, inr}
+use Rattle.std.specs.Prelude.{◌⊎◌, Some, slice_index, nat_le, nat_lt}
 use Rattle.std.proofs.lemmas.Bool.{and_parts, leb-true, ltb-true}
 use Rattle.std.proofs.lemmas.List.{get_or_default}
 use Rattle.cells.specs.Contents.{UNDEFINED, cell_at, in_range}
 use Rattle.back_core.specs.Link.{Link}
-use Rattle.front_model.specs.Face.{Object, Buffer, Stored, Face, put_object, outline_at, view, recorded, nodes_touch}
+use Rattle.front_model.specs.Face.{Object, Buffer, Face, put_object, outline_at, view, recorded, nodes_touch}
 use Rattle.front_model.specs.Stands.{Moved, IsQuiet}
 use Rattle.front_model.specs.Wanted.{with_bytes, with_copy}
-use Rattle.front_core.specs.Core.{OnlyFlushed, IsParted, HasStore, HasFresh, IsQuietBut, new_cells}
+use Rattle.front_core.specs.Core.{OnlyFlushed, IsParted, HasStore, HasFresh, IsQuietBut}
 
 -- what is shown and quiet is as before
 abbrev pub IsSame : Face → Face → Link → Link → Type 0

@@ -1,5 +1,5 @@
 -- Copies and barriers of buffers may be recorded.
-use Rattle.std.proofs.Common.{◌≡◌, ◌≢◌, ℕ, ◌+◌, ◌<◌, ◌≤◌, ◌==◌, Bool, true, false, List, [], ◌∷◌, ◌++◌, length, refl, sym, ◌∙◌, ap, subst, arith, inl, inr}
+use Rattle.std.proofs.Common.{◌≡◌, ◌≢◌, ℕ, ◌+◌, ◌<◌, ◌≤◌, ◌==◌, Bool, true, false, List, [], ◌∷◌, ◌++◌, length, refl, sym, ◌∙◌, subst, arith, inl, inr}
 use Rattle.std.specs.Prelude.{◌⊎◌, ◌||◌, min, Option, Some, None, IfSome, IsSome, All}
 use Rattle.std.specs.List.{AllByRecursion}
 use Rattle.std.proofs.lemmas.Bool.{false≢true, false_from_ne_true, or_left, or_right, or_cases, eqb-true}
@@ -55,16 +55,16 @@ none_second false b e = e
 one_apart : (x : Node) (ys : List Node) → ((id : ℕ) → touches_object x id ≡ true → nodes_touch ys id ≡ false) → AllByRecursion (λ y. conflict x y ≡ false) ys
 one_apart x [] none = tt
 one_apart x (y ∷ ys) none = (
-    false_from_ne_true (conflict x y) (λ e. let s : Shares x y = shares x y e in
-    false≢true (sym (none_first (touches_object y s.id) (nodes_touch ys s.id) (none s.id s.by_a)) ∙ s.by_b)),
-    one_apart x ys (λ id t. none_second (touches_object y id) (nodes_touch ys id) (none id t)),
+  false_from_ne_true (conflict x y) (λ e. let s : Shares x y = shares x y e in
+      false≢true (sym (none_first (touches_object y s.id) (nodes_touch ys s.id) (none s.id s.by_a)) ∙ s.by_b)),
+  one_apart x ys (λ id t. none_second (touches_object y id) (nodes_touch ys id) (none id t)),
 )
 
 pub apart_where : (xs ys : List Node) → ((id : ℕ) → nodes_touch xs id ≡ true → nodes_touch ys id ≡ false) → NoConflict xs ys
 apart_where [] ys none = tt
 apart_where (x ∷ xs) ys none = (
-    one_apart x ys (λ id t. none id (or_left (touches_object x id) (nodes_touch xs id) t)),
-    apart_where xs ys (λ id t. none id (or_right (touches_object x id) (nodes_touch xs id) t)),
+  one_apart x ys (λ id t. none id (or_left (touches_object x id) (nodes_touch xs id) t)),
+  apart_where xs ys (λ id t. none id (or_right (touches_object x id) (nodes_touch xs id) t)),
 )
 
 -- Copies
@@ -104,15 +104,15 @@ pub copy_may : (f : Face) (hands : Hands) (s : Link) (index : ℕ) (src : Handle
     IsFree f hands s index src src_at size → IsFree f hands s index dst dst_at size → (src.0 ≡ dst.0 → (src_at + size ≤ dst_at) ⊎ (dst_at + size ≤ src_at)) →
     MayRecord f hands s index (fenced (copy_node src src_at dst dst_at size))
 copy_may f hands s index src src_at dst dst_at size own few sound some from to apart = record {
-    of_group = own;
-    sound = sound;
-    barriers = three (λ n. IfSome (barrier_of n) NamesAll) (full_barrier src) (full_barrier dst) copy (refl, refl) (refl, refl) tt;
-    fits = three (NodeFits s.kinds) (full_barrier src) (full_barrier dst) copy (is_live (s.kinds src.0) src_at size from.range) (is_live (s.kinds dst.0) dst_at size to.range) (from.range, to.range, apart);
-    none_empty = three NoneEmpty (full_barrier src) (full_barrier dst) copy (barrier_not_empty src) (barrier_not_empty dst) (copy_not_empty src src_at dst dst_at size some from.end to.end);
-    few = omega (arith, few);
-    apart = λ i ne. apart_where (fenced copy) (f.pending i) (λ id touch. by (λ j. nodes_touch (f.pending i) j ≡ false) id (from.parted i ne) (to.parted i ne) touch);
-    targets = λ id touch. by (IsTarget f hands) id from.target to.target touch;
-  }
+  of_group = own;
+  sound = sound;
+  barriers = three (λ n. IfSome (barrier_of n) NamesAll) (full_barrier src) (full_barrier dst) copy (refl, refl) (refl, refl) tt;
+  fits = three (NodeFits s.kinds) (full_barrier src) (full_barrier dst) copy (is_live (s.kinds src.0) src_at size from.range) (is_live (s.kinds dst.0) dst_at size to.range) (from.range, to.range, apart);
+  none_empty = three NoneEmpty (full_barrier src) (full_barrier dst) copy (barrier_not_empty src) (barrier_not_empty dst) (copy_not_empty src src_at dst dst_at size some from.end to.end);
+  few = omega (arith, few);
+  apart = λ i ne. apart_where (fenced copy) (f.pending i) (λ id touch. by (λ j. nodes_touch (f.pending i) j ≡ false) id (from.parted i ne) (to.parted i ne) touch);
+  targets = λ id touch. by (IsTarget f hands) id from.target to.target touch;
+}
   where
     copy : Node
     copy = copy_node src src_at dst dst_at size
@@ -129,15 +129,15 @@ pub barrier_may : (f : Face) (hands : Hands) (s : Link) (index : ℕ) (id : Hand
     IsSound (whole_log f s ++ commands 0 (full_barrier id ∷ [])) → IsSome (s.kinds id.0) → IsTarget f hands id.0 →
     ((i : ℕ) → i ≢ index → nodes_touch (f.pending i) id.0 ≡ false) → MayRecord f hands s index (full_barrier id ∷ [])
 barrier_may f hands s index id own few sound live target parted = record {
-    of_group = own;
-    sound = sound;
-    barriers = All-cons (λ n. IfSome (barrier_of n) NamesAll) (full_barrier id) [] (refl, refl) (All-nil (λ n. IfSome (barrier_of n) NamesAll));
-    fits = All-cons (NodeFits s.kinds) (full_barrier id) [] live (All-nil (NodeFits s.kinds));
-    none_empty = All-cons NoneEmpty (full_barrier id) [] (barrier_not_empty id) (All-nil NoneEmpty);
-    few = omega (arith, few);
-    apart = λ i ne. apart_where (full_barrier id ∷ []) (f.pending i) (λ j touch. subst (λ k. nodes_touch (f.pending i) k ≡ false) (same j touch) (parted i ne));
-    targets = λ j touch. subst (IsTarget f hands) (same j touch) target;
-  }
+  of_group = own;
+  sound = sound;
+  barriers = All-cons (λ n. IfSome (barrier_of n) NamesAll) (full_barrier id) [] (refl, refl) (All-nil (λ n. IfSome (barrier_of n) NamesAll));
+  fits = All-cons (NodeFits s.kinds) (full_barrier id) [] live (All-nil (NodeFits s.kinds));
+  none_empty = All-cons NoneEmpty (full_barrier id) [] (barrier_not_empty id) (All-nil NoneEmpty);
+  few = omega (arith, few);
+  apart = λ i ne. apart_where (full_barrier id ∷ []) (f.pending i) (λ j touch. subst (λ k. nodes_touch (f.pending i) k ≡ false) (same j touch) (parted i ne));
+  targets = λ j touch. subst (IsTarget f hands) (same j touch) target;
+}
   where
     same : (j : ℕ) → nodes_touch (full_barrier id ∷ []) j ≡ true → id.0 ≡ j
     same j touch = eqb-true id.0 j (sym (barrier_touches id j) ∙ touch)

@@ -1,13 +1,10 @@
-use Rattle.std.proofs.Common.{◌≡◌, ◌≢◌, ℕ, ◌+◌, ◌==◌, false, [], ◌∷◌, ◌++◌, refl, sym, ◌∙◌, ap, subst, inl, inr}
-use Rattle.std.specs.Prelude.{Some, IfSome, IsSome}
-use Rattle.std.specs.Option.{option_map}
+use Rattle.std.proofs.Common.{◌≡◌, ℕ, ◌+◌, ◌==◌, false, [], ◌∷◌, ◌++◌, sym, ◌∙◌, ap, subst, inr}
+use Rattle.std.specs.Prelude.{IfSome, IsSome}
 use Rattle.vk_types.specs.declared.handles.HandleId.{HandleId}
 use Rattle.vk_types.specs.declared.handles.Kind.TheVariants as kind
 use Rattle.vk_types.specs.declared.batches.QueueSerial.{QueueSerial}
-use Rattle.tables.specs.Table.{entry}
-use Rattle.buffer_helper.specs.Buffers.{BufferStore}
 use Rattle.back_core.specs.Link.{Link, kinds_of}
-use Rattle.front_model.specs.Face.{Object, Buffer, Stored, Face, outline_at, view, nodes_touch}
+use Rattle.front_model.specs.Face.{Buffer, Stored, Face, outline_at, view, nodes_touch}
 use Rattle.front_model.specs.Stands.{Holds, IsQuiet, no_hands}
 use Rattle.front_model.specs.Steps.{MayRecord, noted_store, with_nodes, full_barrier}
 use Rattle.front_model.proofs.Base.{put-same, put-other, map_is, is_some_of}
@@ -35,11 +32,11 @@ still_parted c index b len id has i x ne at =
 ends : (c : CoreParts) (index b len : ℕ) (id : HandleId) → HasBuffer c index b id len → EndsWithBarrier (with_nodes (face c) index (full_barrier id ∷ [])) index b
 ends c index b len id has x at =
     let from = map_is (noted_store index ((face c).last index + 1) (full_barrier id ∷ [])) ((face c).objects (Buffer b)) x at in
-    let handle : from.0.handle ≡ id.0 = subst (λ v. IfSome v (λ y. y.handle ≡ id.0)) from.1 has.handle in
-    (
-        (face c).pending index, id,
-        put-same (face c).pending index ((face c).pending index ++ full_barrier id ∷ []),
-        sym handle ∙ ap (λ (y : Stored). y.handle) from.2,
+    let handle : from.0.handle ≡ id.0 = subst (λ v. IfSome v (λ y. y.handle ≡ id.0)) from.1 has.handle in (
+      (face c).pending index,
+      id,
+      put-same (face c).pending index ((face c).pending index ++ full_barrier id ∷ []),
+      sym handle ∙ ap (λ (y : Stored). y.handle) from.2,
     )
 
 pub returns : goal.returns
@@ -52,10 +49,10 @@ returns l = record {
       let at = store_at c b of.store of.is in
       let live : IsSome (s.kinds id.0) = is_some_of (s.kinds id.0) (kind.Buffer of.store.size) (ap s.kinds (sym of.handle) ∙ l.steps_may.ensures.kinds f no_hands s (Buffer b) (stored_of of.store) h at) in
       let may : MayRecord f no_hands s serial.index nodes =
-          barrier_may f no_hands s serial.index id next.group next.few
-          (l.fenced_nodes_stay_sound.ensures.barrier _ id h.sound (l.fenced_nodes_stay_sound.ensures.one_queue f s) h.barriers) live
-          (inr (Buffer b, stored_of of.store, at, of.handle))
-          (λ i ne. subst (λ j. nodes_touch (f.pending i) j ≡ false) of.handle (has.parted i (stored_of of.store) ne at)) in
+      barrier_may f no_hands s serial.index id next.group next.few
+      (l.fenced_nodes_stay_sound.ensures.barrier _ id h.sound (l.fenced_nodes_stay_sound.ensures.one_queue f s) h.barriers) live
+      (inr (Buffer b, stored_of of.store, at, of.handle))
+      (λ i ne. subst (λ j. nodes_touch (f.pending i) j ≡ false) of.handle (has.parted i (stored_of of.store) ne at)) in
       let same : face d ≡ with_nodes f serial.index nodes = after c d s place b len serial id h distinct next of recorded in
       record {
         holds = subst (λ g. Holds g no_hands s) (sym same) (l.steps_hold.ensures.records f no_hands s serial.index nodes h may);
@@ -68,9 +65,8 @@ returns l = record {
       };
   behind = λ c d s place b len serial id h next has recorded.
       let distinct : Distinct c = λ o q x y. l.steps_may.ensures.distinct (face c) no_hands s o q x y h in
-      let same : face d ≡ with_nodes (face c) serial.index (full_barrier id ∷ []) = after c d s place b len serial id h distinct next (store_of c serial.index b id len has) recorded in
-      (
-          subst (λ g. IsParted g serial.index b) (sym same) (still_parted c serial.index b len id has),
-          subst (λ g. EndsWithBarrier g serial.index b) (sym same) (ends c serial.index b len id has),
+      let same : face d ≡ with_nodes (face c) serial.index (full_barrier id ∷ []) = after c d s place b len serial id h distinct next (store_of c serial.index b id len has) recorded in (
+        subst (λ g. IsParted g serial.index b) (sym same) (still_parted c serial.index b len id has),
+        subst (λ g. EndsWithBarrier g serial.index b) (sym same) (ends c serial.index b len id has),
       );
 }

@@ -1,18 +1,13 @@
-use Rattle.std.proofs.Common.{◌≡◌, ◌≢◌, ℕ, ◌+◌, ◌<◌, ◌≤◌, ◌==◌, Bool, true, false, refl, sym, ◌∙◌, ap, subst, arith, inl, inr}
-use Rattle.std.specs.Prelude.{◌⊎◌, ◌||◌, Some}
-use Rattle.std.proofs.lemmas.Bool.{or_from}
+use Rattle.std.proofs.Common.{◌≡◌, ℕ, ◌==◌, refl, sym, ◌∙◌, ap, subst}
+use Rattle.std.specs.Prelude.{◌||◌, Some}
 use Rattle.vk_types.specs.declared.handles.HandleId.{HandleId}
-use Rattle.vk_types.specs.declared.batches.QueueSerial.{QueueSerial}
-use Rattle.vk_types.specs.Touches.{the_end}
 use Rattle.tables.specs.Table.{entry}
 use Rattle.buffer_helper.specs.Buffers.{BufferStore}
-use Rattle.back_core.specs.Link.{Link}
-use Rattle.front_model.specs.Face.{Object, Buffer, Face, outline_at, view, nodes_touch}
+use Rattle.front_model.specs.Face.{Buffer, Face, outline_at, view, nodes_touch}
 use Rattle.front_model.specs.Stands.{Holds, IsQuiet, no_hands}
 use Rattle.front_model.specs.Steps.{MayRecord, with_nodes, fenced}
 use Rattle.front_core.specs.Buffers.{stored_of}
-use Rattle.front_core.specs.Core.{CoreParts, face, IsQuietBut}
-use Rattle.front_core.specs.Recording.{IsNextSerial, HasBuffer, IsRecorded}
+use Rattle.front_core.specs.Core.{CoreParts, face}
 use Rattle.front_core.proofs.Recorded.{face_recorded, outlines_recorded}
 use Rattle.front_core.proofs.Recordable.{copy_node, copy_touches, copy_no_layout, copy_may, IsFree}
 use Rattle.front_core.proofs.BufferStores.{IsStore, store_of, store_at, Distinct, handle_is, other_handle, buffer_free}
@@ -35,13 +30,13 @@ returns l = record {
       let free_a : IsFree f no_hands s serial.index from src_at size = buffer_free c no_hands s serial.index src from src_len src_at size h at_src a some src_in in
       let free_b : IsFree f no_hands s serial.index to dst_at size = buffer_free c no_hands s serial.index dst to dst_len dst_at size h at_dst b some dst_in in
       let may : MayRecord f no_hands s serial.index nodes =
-          copy_may f no_hands s serial.index from src_at to dst_at size next.group next.few
-          (l.fenced_nodes_stay_sound.ensures.node _ (copy_node from src_at to dst_at size) h.sound (l.fenced_nodes_stay_sound.ensures.one_queue f s) h.barriers (copy_no_layout from src_at to dst_at size) refl)
-          some free_a free_b (λ e. apart (one_store c src dst from to src_len dst_len distinct a b e)) in
+      copy_may f no_hands s serial.index from src_at to dst_at size next.group next.few
+      (l.fenced_nodes_stay_sound.ensures.node _ (copy_node from src_at to dst_at size) h.sound (l.fenced_nodes_stay_sound.ensures.one_queue f s) h.barriers (copy_no_layout from src_at to dst_at size) refl)
+      some free_a free_b (λ e. apart (one_store c src dst from to src_len dst_len distinct a b e)) in
       let touch : (k : ℕ) (x : BufferStore) → entry k c.buffers ≡ Some x → nodes_touch nodes x.handle.0 ≡ ((k == src) || (k == dst)) =
-          λ k x is. copy_touches from src_at to dst_at size x.handle.0
-              ∙ ap (λ t. t || (to.0 == x.handle.0)) (handle_is c k src from src_len x distinct a is)
-              ∙ ap (λ t. (k == src) || t) (handle_is c k dst to dst_len x distinct b is) in
+      λ k x is. copy_touches from src_at to dst_at size x.handle.0
+      ∙ ap (λ t. t || (to.0 == x.handle.0)) (handle_is c k src from src_len x distinct a is)
+      ∙ ap (λ t. (k == src) || t) (handle_is c k dst to dst_len x distinct b is) in
       let same : face d ≡ with_nodes f serial.index nodes = face_recorded c d no_hands s place nodes serial (λ k. (k == src) || (k == dst)) h next recorded touch in
       record {
         holds = subst (λ g. Holds g no_hands s) (sym same) (l.steps_hold.ensures.records f no_hands s serial.index nodes h may);

@@ -1,10 +1,9 @@
-use Rattle.std.proofs.Common.{◌≡◌, ◌≢◌, ℕ, ◌+◌, ◌<◌, ◌≤◌, ◌==◌, false, [], ◌∷◌, ◌++◌, refl, sym, ◌∙◌, ap, subst, arith, inl, inr}
-use Rattle.std.specs.Prelude.{◌||◌, Some, None}
+use Rattle.std.proofs.Common.{◌≡◌, ℕ, ◌+◌, ◌<◌, ◌≤◌, ◌==◌, refl, sym, ◌∙◌, ap, subst, arith}
+use Rattle.std.specs.Prelude.{◌||◌}
 use Rattle.vk_types.specs.declared.handles.HandleId.{HandleId}
 use Rattle.vk_types.specs.declared.handles.Kind.TheVariants as kind
 use Rattle.back_core.specs.Link.{Link, gave}
-use Rattle.back_core.specs.Needs.{MayGive}
-use Rattle.front_model.specs.Face.{Object, Buffer, Stored, Face, outline_at, view, nodes_touch}
+use Rattle.front_model.specs.Face.{Buffer, Face, outline_at, view}
 use Rattle.front_model.specs.Stands.{Hands, Holds, IsQuiet, no_hands}
 use Rattle.front_model.specs.Steps.{MayRecord, fresh_slot, with_nodes, fenced}
 use Rattle.front_core.specs.Buffers.{stored_of}
@@ -21,24 +20,24 @@ use Rattle.front_core.proofs.recording_comes_to.upload_comes_to.Goals as goal
 pub returns : goal.returns
 returns l =
     let may_copy : (c : CoreParts) (s : Link) (place b at len size : ℕ) (serial : QueueSerial) (src to : HandleId) → Holds (face c) (in_hand src.0 len) s → IsNextSerial c place serial → HasBuffer c serial.index b to size →
-            at + len ≤ size → 0 < len → len ≤ the_end → MayRecord (face c) (in_hand src.0 len) s serial.index (fenced (copy_node src 0 to at len)) =
-        λ c s place b at len size serial src to h next has inside some end.
-            let f : Face = face c in
-            let hands : Hands = in_hand src.0 len in
-            let slot = fresh_slot (kind.Buffer len) in
-            let of : IsStore c b to size = store_of c serial.index b to size has in
-            copy_may f hands s serial.index src 0 to at len next.group next.few
-            (l.fenced_nodes_stay_sound.ensures.node _ (copy_node src 0 to at len) h.sound (l.fenced_nodes_stay_sound.ensures.one_queue f s) h.barriers (copy_no_layout src 0 to at len) refl)
-            some
-            (hand_free f s serial.index src len (l.steps_may.ensures.hands f hands s src.0 slot h (hand_at src.0 len))
-            (λ i. l.steps_may.ensures.untouched f hands s src.0 i (kind.Buffer len) h (hand_at src.0 len)) some end)
-            (buffer_free c hands s serial.index b to size at len h has of some inside)
-            (λ e. absurd (l.steps_may.ensures.in_no_object f hands s (Buffer b) (stored_of of.store) src.0 slot h (hand_at src.0 len) (store_at c b of.store of.is) (of.handle ∙ sym e))) in
+    at + len ≤ size → 0 < len → len ≤ the_end → MayRecord (face c) (in_hand src.0 len) s serial.index (fenced (copy_node src 0 to at len)) =
+    λ c s place b at len size serial src to h next has inside some end.
+    let f : Face = face c in
+    let hands : Hands = in_hand src.0 len in
+    let slot = fresh_slot (kind.Buffer len) in
+    let of : IsStore c b to size = store_of c serial.index b to size has in
+    copy_may f hands s serial.index src 0 to at len next.group next.few
+    (l.fenced_nodes_stay_sound.ensures.node _ (copy_node src 0 to at len) h.sound (l.fenced_nodes_stay_sound.ensures.one_queue f s) h.barriers (copy_no_layout src 0 to at len) refl)
+    some
+    (hand_free f s serial.index src len (l.steps_may.ensures.hands f hands s src.0 slot h (hand_at src.0 len))
+    (λ i. l.steps_may.ensures.untouched f hands s src.0 i (kind.Buffer len) h (hand_at src.0 len)) some end)
+    (buffer_free c hands s serial.index b to size at len h has of some inside)
+    (λ e. absurd (l.steps_may.ensures.in_no_object f hands s (Buffer b) (stored_of of.store) src.0 slot h (hand_at src.0 len) (store_at c b of.store of.is) (of.handle ∙ sym e))) in
     let same : (c d : CoreParts) (s : Link) (place b at len size : ℕ) (serial : QueueSerial) (src to : HandleId) → Holds (face c) (in_hand src.0 len) s → IsNextSerial c place serial → HasBuffer c serial.index b to size →
-            IsRecorded c d place (fenced (copy_node src 0 to at len)) serial (λ k. k == b) → face d ≡ with_nodes (face c) serial.index (fenced (copy_node src 0 to at len)) =
-        λ c d s place b at len size serial src to h next has recorded.
-            after_upload c d s place b at len size serial src to h (λ o q x y. l.steps_may.ensures.distinct (face c) (in_hand src.0 len) s o q x y h)
-            (λ o x. l.steps_may.ensures.in_no_object (face c) (in_hand src.0 len) s o x src.0 (fresh_slot (kind.Buffer len)) h (hand_at src.0 len)) next (store_of c serial.index b to size has) recorded in
+    IsRecorded c d place (fenced (copy_node src 0 to at len)) serial (λ k. k == b) → face d ≡ with_nodes (face c) serial.index (fenced (copy_node src 0 to at len)) =
+    λ c d s place b at len size serial src to h next has recorded.
+    after_upload c d s place b at len size serial src to h (λ o q x y. l.steps_may.ensures.distinct (face c) (in_hand src.0 len) s o q x y h)
+    (λ o x. l.steps_may.ensures.in_no_object (face c) (in_hand src.0 len) s o x src.0 (fresh_slot (kind.Buffer len)) h (hand_at src.0 len)) next (store_of c serial.index b to size has) recorded in
     record {
       may = λ c d s place b at len size serial src to uses h next has inside some end recorded one.
           let f : Face = face c in

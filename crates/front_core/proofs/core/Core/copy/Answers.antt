@@ -15,20 +15,18 @@ record_copy-requires-clause-parted g c =
 
 pub record_copy-requires-clause-source : goal.record_copy-requires-clause-source
 record_copy-requires-clause-source g c =
-    let same = same_then (face c.args.self.now) (face c.prepare.new.self) (face c.prepare-in-Ok.new.self) (g.L.BackLink.state c.args.link.now) (g.L.BackLink.state c.prepare.new.link) (g.L.BackLink.state c.prepare-in-Ok.new.link) c.in-Ok.ensures.moved c.in-Ok-prepare.ensures.moved in
-    (
-        c.requires.source.0,
-        store_kept (face c.args.self.now) (face c.prepare-in-Ok.new.self) (g.L.BackLink.state c.args.link.now) (g.L.BackLink.state c.prepare-in-Ok.new.link) c.args.src c.requires.source.0 same c.requires.source.1,
-        c.requires.source.2,
+    let same = same_then (face c.args.self.now) (face c.prepare.new.self) (face c.prepare-in-Ok.new.self) (g.L.BackLink.state c.args.link.now) (g.L.BackLink.state c.prepare.new.link) (g.L.BackLink.state c.prepare-in-Ok.new.link) c.in-Ok.ensures.moved c.in-Ok-prepare.ensures.moved in (
+      c.requires.source.0,
+      store_kept (face c.args.self.now) (face c.prepare-in-Ok.new.self) (g.L.BackLink.state c.args.link.now) (g.L.BackLink.state c.prepare-in-Ok.new.link) c.args.src c.requires.source.0 same c.requires.source.1,
+      c.requires.source.2,
     )
 
 pub record_copy-requires-clause-target : goal.record_copy-requires-clause-target
 record_copy-requires-clause-target g c =
-    let same = same_then (face c.args.self.now) (face c.prepare.new.self) (face c.prepare-in-Ok.new.self) (g.L.BackLink.state c.args.link.now) (g.L.BackLink.state c.prepare.new.link) (g.L.BackLink.state c.prepare-in-Ok.new.link) c.in-Ok.ensures.moved c.in-Ok-prepare.ensures.moved in
-    (
-        c.requires.target.0,
-        store_kept (face c.args.self.now) (face c.prepare-in-Ok.new.self) (g.L.BackLink.state c.args.link.now) (g.L.BackLink.state c.prepare-in-Ok.new.link) c.args.dst c.requires.target.0 same c.requires.target.1,
-        c.requires.target.2,
+    let same = same_then (face c.args.self.now) (face c.prepare.new.self) (face c.prepare-in-Ok.new.self) (g.L.BackLink.state c.args.link.now) (g.L.BackLink.state c.prepare.new.link) (g.L.BackLink.state c.prepare-in-Ok.new.link) c.in-Ok.ensures.moved c.in-Ok-prepare.ensures.moved in (
+      c.requires.target.0,
+      store_kept (face c.args.self.now) (face c.prepare-in-Ok.new.self) (g.L.BackLink.state c.args.link.now) (g.L.BackLink.state c.prepare-in-Ok.new.link) c.args.dst c.requires.target.0 same c.requires.target.1,
+      c.requires.target.2,
     )
 
 pub returns-in-Ok-prepare-clause-moved : goal.returns-in-Ok-prepare-clause-moved

@@ -51,11 +51,11 @@ returns-then-is_ok-2-clause-behind g c =
 pub returns-clause-err : goal.returns-clause-err
 returns-clause-err g c =
     let was : (b : ℕ) → option_map (λ (x : BufferStore). x.handle) (entry b c.self.inside.buffers) ≡ option_map (λ (x : BufferStore). x.handle) (entry b c.args.self.now.buffers) =
-        λ b. ap (λ (p : CoreParts). option_map (λ (x : BufferStore). x.handle) (entry b p.buffers)) c.self.view_is in
+    λ b. ap (λ (p : CoreParts). option_map (λ (x : BufferStore). x.handle) (entry b p.buffers)) c.self.view_is in
     let keeps : KeepsHandles c.args.self.now.buffers c.else-is_ok.self.buffers =
-        elim c.else-is_ok.branch [
-          | else-is_ok-via-then-is_ok+else-is_ok-2 w ↦ λ b. ap (λ (p : CoreParts). option_map (λ (x : BufferStore). x.handle) (entry b p.buffers)) w.self-is
-              ∙ ap (option_map (λ (x : BufferStore). x.handle)) (from_not_ok w.note.result (sym w.is_ok-then-is_ok.ensures.value ∙ w.if-is_ok-2.false) w.note.ensures.err b) ∙ was b
-          | else-is_ok-via-else-is_ok w ↦ λ b. ap (λ (p : CoreParts). option_map (λ (x : BufferStore). x.handle) (entry b p.buffers)) w.self-is ∙ was b
-        ] in
+    elim c.else-is_ok.branch [
+      | else-is_ok-via-then-is_ok+else-is_ok-2 w ↦ λ b. ap (λ (p : CoreParts). option_map (λ (x : BufferStore). x.handle) (entry b p.buffers)) w.self-is
+          ∙ ap (option_map (λ (x : BufferStore). x.handle)) (from_not_ok w.note.result (sym w.is_ok-then-is_ok.ensures.value ∙ w.if-is_ok-2.false) w.note.ensures.err b) ∙ was b
+      | else-is_ok-via-else-is_ok w ↦ λ b. ap (λ (p : CoreParts). option_map (λ (x : BufferStore). x.handle) (entry b p.buffers)) w.self-is ∙ was b
+    ] in
     c.stopped_recording_comes_to.ensures.owns c.args.self.now c.else-is_ok.self (g.L.BackLink.state c.args.link.now) c.requires.holds keeps

@@ -5,9 +5,9 @@ use Rattle.front_core.proofs.core.Core.upload.Goals as goal
 
 pub record_upload-requires-clause-store : goal.record_upload-requires-clause-store
 record_upload-requires-clause-store g c = (
-    c.requires.store.0,
-    store_kept (face c.args.self.now) (face c.prepare.new.self) (g.L.BackLink.state c.args.link.now) (g.L.BackLink.state c.prepare.new.link) c.args.buffer c.requires.store.0 c.in-Ok.ensures.moved c.requires.store.1,
-    c.requires.store.2,
+  c.requires.store.0,
+  store_kept (face c.args.self.now) (face c.prepare.new.self) (g.L.BackLink.state c.args.link.now) (g.L.BackLink.state c.prepare.new.link) c.args.buffer c.requires.store.0 c.in-Ok.ensures.moved c.requires.store.1,
+  c.requires.store.2,
 )
 
 pub returns-in-Ok-staged-clause-moved : goal.returns-in-Ok-staged-clause-moved
