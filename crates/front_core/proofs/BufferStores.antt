@@ -95,6 +95,15 @@ buffer_free c hands s index b id len at size h has of some inside =
 abbrev pub KeepsHandles : Entries BufferStore → Entries BufferStore → Type 0
 KeepsHandles old new = (b : ℕ) → option_map (λ (x : BufferStore). x.handle) (entry b new) ≡ option_map (λ (x : BufferStore). x.handle) (entry b old)
 
+pub same_handles : (p q : CoreParts) → p ≡ q → KeepsHandles q.buffers p.buffers
+same_handles p q same b = ap (λ (c : CoreParts). option_map (λ (x : BufferStore). x.handle) (entry b c.buffers)) same
+
+pub same_stores : (old new : Entries BufferStore) → ((b : ℕ) → entry b new ≡ entry b old) → KeepsHandles old new
+same_stores old new same b = ap (option_map (λ (x : BufferStore). x.handle)) (same b)
+
+pub kept_then : (one two three : Entries BufferStore) → KeepsHandles one two → KeepsHandles two three → KeepsHandles one three
+kept_then one two three first second b = second b ∙ first b
+
 pub owns_kept : (old new : Entries BufferStore) (s : Link) → KeepsHandles old new → Owns (objects_of old) s → Owns (objects_of new) s
 owns_kept old new s keeps owns = record { owner = owns.owner; each = each }
   where
