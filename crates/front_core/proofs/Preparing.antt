@@ -29,10 +29,13 @@ touched_is c s index b x h own is = go (nodes_touch ((face c).pending index) x.h
   where
     id : ℕ
     id = x.handle.0
+
     used : number_of x.uses index ≡ use_of (face c) s id index
     used = (h.objects (Buffer b) (stored_of x) (ap (option_map stored_of) is)).slot.used index
+
     last : (face c).last index ≡ last_of c.indexes index
     last = last_own c.indexes index own
+
     go : (t : Bool) → nodes_touch ((face c).pending index) id ≡ t → t ≡ nat_lt (last_of c.indexes index) (number_of x.uses index)
     go true t =
         let u : number_of x.uses index ≡ (face c).last index + 1 = used ∙ cond-true (nodes_touch ((face c).pending index) id) ((face c).last index + 1) (last_use s.mine index id) t in
@@ -140,8 +143,8 @@ pub apart_then : (f : Face) (index b place other : ℕ) → other ≡ 8 * f.grou
 apart_then f index b place other at apart here i own below ne = elim (cases_lt i (8 * f.group + place)) [
   | inl low ↦ apart i own low ne
   | inr high ↦
-    let same : i ≡ other = omega arith in
-    subst (λ j. IsApart f j b) (sym same) (here (λ e. ne (same ∙ e)))
+      let same : i ≡ other = omega arith in
+      subst (λ j. IsApart f j b) (sym same) (here (λ e. ne (same ∙ e)))
 ]
 
 pub all_apart : (f : Face) (s : Link) (index b : ℕ) → Holds f no_hands s → AreApart f index b 8 → IsParted f index b

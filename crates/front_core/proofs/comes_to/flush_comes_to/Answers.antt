@@ -13,11 +13,11 @@ returns c = record {
   nothing = λ k s index place h own at none. nothing_flushed k s index place h own at none;
   may = λ k s index batch h own next. c.steps_may.ensures.enqueue (face k) no_hands s index batch h own next;
   batch = λ k d s t index place batch h own at next room kept is_core is_link.
-    batch_flushed (face k) (face d) s t index batch
-    (face_flushed k d index place batch.number own at next.next (ap (λ x. last_of x.indexes index) (sym is_core) ∙ kept) is_core)
-    is_link next
-    (c.steps_hold.ensures.enqueues (face k) no_hands s index batch h own next room)
-    (c.link_steps_show.ensures.enqueues (face k) no_hands s index batch h own next)
-    (λ o quiet. c.quiet_objects_stay.ensures.enqueues (face k) s o index batch next quiet);
+      batch_flushed (face k) (face d) s t index batch
+      (face_flushed k d index place batch.number own at next.next (ap (λ x. last_of x.indexes index) (sym is_core) ∙ kept) is_core)
+      is_link next
+      (c.steps_hold.ensures.enqueues (face k) no_hands s index batch h own next room)
+      (c.link_steps_show.ensures.enqueues (face k) no_hands s index batch h own next)
+      (λ o quiet. c.quiet_objects_stay.ensures.enqueues (face k) s o index batch next quiet);
   owns = λ k s h. c.steps_may.ensures.owns (face k) no_hands s h;
 }

@@ -20,7 +20,7 @@ enqueue-requires g c =
     let own : IsOfGroup k.indexes.group c.args.index = subst (λ (x : CoreParts). IsOfGroup x.indexes.group c.args.index) (sym c.self.view_is) c.requires.group in
     let at : c.place-place.result + 8 * k.indexes.group ≡ c.args.index = subst (λ (x : CoreParts). c.place-place.result + 8 * x.indexes.group ≡ c.args.index) (sym c.self.view_is) c.place-place.ensures.place in
     let next_ : IsNextBatch (face k) c.args.index batch = next_batch k c.args.index c.place-place.result batch own at refl c.next-number.ensures.number (c.of-3.ensures ∙ c.take.ensures.taken)
-      (record { queue = refl; waits = c.of.ensures ∙ c.new.ensures.items; signals = c.of-2.ensures ∙ c.new-2.ensures.items }) in
+    (record { queue = refl; waits = c.of.ensures ∙ c.new.ensures.items; signals = c.of-2.ensures ∙ c.new-2.ensures.items }) in
     c.flush_comes_to.ensures.may k s c.args.index batch holds own next_
 
 pub returns : goal.returns
@@ -34,20 +34,20 @@ returns g c =
     let own : IsOfGroup k.indexes.group c.args.index = subst (λ (x : CoreParts). IsOfGroup x.indexes.group c.args.index) (sym c.self.view_is) c.requires.group in
     let at : c.place-place.result + 8 * k.indexes.group ≡ c.args.index = subst (λ (x : CoreParts). c.place-place.result + 8 * x.indexes.group ≡ c.args.index) (sym c.self.view_is) c.place-place.ensures.place in
     let next_ : IsNextBatch (face k) c.args.index batch = next_batch k c.args.index c.place-place.result batch own at refl c.next-number.ensures.number (c.of-3.ensures ∙ c.take.ensures.taken)
-      (record { queue = refl; waits = c.of.ensures ∙ c.new.ensures.items; signals = c.of-2.ensures ∙ c.new-2.ensures.items }) in
+    (record { queue = refl; waits = c.of.ensures ∙ c.new.ensures.items; signals = c.of-2.ensures ∙ c.new-2.ensures.items }) in
     let table : c.next-number.new.self ≡ with_last k.indexes c.args.index c.next-number.result = c.next-number.ensures.table in
     let left : c.take.new.self ≡ slice_set k.pending c.place-place.result [] = c.take.ensures.left in
     let core : d ≡ record k { indexes = with_last k.indexes c.args.index c.next-number.result; pending = slice_set k.pending c.place-place.result [] } = cc in
     elim c.match-enqueue.branch [
       | in-Ok w ↦
-        let h : HasFlushed (face c.args.self.now) (face d) s t c.args.index = subst (λ x. HasFlushed (face x) (face d) s t c.args.index) c.self.view_is
+          let h : HasFlushed (face c.args.self.now) (face d) s t c.args.index = subst (λ x. HasFlushed (face x) (face d) s t c.args.index) c.self.view_is
           (c.flush_comes_to.ensures.batch k d s t c.args.index c.place-place.result batch holds own at next_ w.in-Ok.ensures.room c.next-number.ensures.last core w.in-Ok.ensures.ok) in
-        rw w.result-is (record { moved = h.moved; flushed = h.flushed; log = h.log; err = tt; cause = record { later = c.enqueue.ensures.faults; lost = λ e. absurd cc } })
+          rw w.result-is (record { moved = h.moved; flushed = h.flushed; log = h.log; err = tt; cause = record { later = c.enqueue.ensures.faults; lost = λ e. absurd cc } })
       | in-Err w ↦ rw w.result-is (record {
-          moved = tt;
-          flushed = tt;
-          log = tt;
-          err = rw w.in-Err.ensures.err (c.flush_comes_to.ensures.owns k s holds);
-          cause = record { later = c.enqueue.ensures.faults; lost = λ e. absurd cc };
-        })
+        moved = tt;
+        flushed = tt;
+        log = tt;
+        err = rw w.in-Err.ensures.err (c.flush_comes_to.ensures.owns k s holds);
+        cause = record { later = c.enqueue.ensures.faults; lost = λ e. absurd cc };
+      })
     ]

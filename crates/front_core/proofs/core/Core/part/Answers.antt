@@ -1,5 +1,3 @@
-use Rattle.front_model.specs.Face.{Face}
-use Rattle.back_core.specs.Link.{Link}
 use Rattle.front_core.specs.Core.{face}
 use Rattle.front_core.proofs.Preparing.{on_ok, on_ok_both, some_flushed, apart_flushed, apart_by_test}
 use Rattle.front_core.proofs.core.Core.part.Goals as goal

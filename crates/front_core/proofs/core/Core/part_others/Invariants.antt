@@ -7,5 +7,5 @@ abbrev pub invariant-loop-place : goal.invariant-loop-place
 invariant-loop-place g l = record {
   some : HasFlushedSome (face l.fn.self) (face l.self) (g.L.BackLink.state l.fn.link) (g.L.BackLink.state l.link);
   apart : AreApart (face l.self) l.fn.index l.fn.buffer l.place;
-  faults : g.L.BackLink.faults l.fn.link ≤ g.L.BackLink.faults l.link
+  faults : g.L.BackLink.faults l.fn.link ≤ g.L.BackLink.faults l.link;
 }

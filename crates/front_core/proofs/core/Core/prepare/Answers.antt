@@ -1,4 +1,4 @@
-use Rattle.std.proofs.Common.{ℕ, OnOk}
+use Rattle.std.proofs.Common.{ℕ}
 use Rattle.back_core.specs.Link.{Link}
 use Rattle.front_model.specs.Face.{Face, outline_at, view}
 use Rattle.front_model.specs.Stands.{Moved, IsQuiet}
