@@ -1,6 +1,8 @@
 pub mod Faces
 pub mod Flushing
 pub mod Preparing
+pub mod Reading
+pub mod Waiting
 pub mod BufferLaws
 pub mod Outcomes
 pub mod Recorded
@@ -8,3 +10,4 @@ pub mod Recordable
 pub mod BufferStores
 pub mod Uploads
 pub mod MovesInTurn
+pub mod Settling

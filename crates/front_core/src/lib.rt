@@ -6,6 +6,7 @@ mod comes_to;
 mod core;
 mod moves;
 mod pending;
+mod reading_comes_to;
 mod recording;
 mod recording_comes_to;
 mod stores;

@@ -9,6 +9,7 @@ ghost use Rattle.front_model.specs.Wanted.{with_bytes, with_copy};
 ghost use Rattle.front_core.specs.Core.{face, HasStore, IsQuietBut, outline_of_size, new_cells};
 
 use crate::core::Core;
+use crate::reading_comes_to::{host_comes_to, settle_comes_to};
 use crate::stores_come_to::end_comes_to;
 use back_core::BackLink;
 use vk_types::{QueueSerial, Reason, SerialIndex, Stop};
@@ -169,6 +170,7 @@ impl Core {
         ensures err { OnErr result (Owns (face self.new).objects (L.state link.new)) }
         ensures cause { HasCause (L.faults link.old) (L.faults link.new) result }
     {
+        settle_comes_to();
         match self.prepare(link, index, buffer) {
             Ok(()) => {
                 let serial = self.next_serial(link, index);
@@ -201,6 +203,7 @@ impl Core {
         ensures err { OnErr result (Owns (face self.now).objects (L.state link.new)) }
         ensures cause { HasCause (L.faults link.old) (L.faults link.new) result }
     {
+        host_comes_to();
         match self.buffers.get(buffer) {
             Some(store) => link.read_host(store.id(), at, out),
             None => Ok(()),
@@ -225,8 +228,13 @@ impl Core {
         ensures err { OnErr result (Owns (face self.now).objects (L.state link.new)) }
         ensures cause { HasCause (L.faults link.old) (L.faults link.new) result }
     {
+        host_comes_to();
         match self.buffers.get(buffer) {
-            Some(store) => link.write_host(store.id(), at, bytes),
+            Some(store) => {
+                // the size is a number of 64 bits, so the range does not go past the last place
+                let _size = store.size();
+                link.write_host(store.id(), at, bytes)
+            }
             None => Ok(()),
         }
     }

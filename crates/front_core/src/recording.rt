@@ -1,5 +1,5 @@
 // How nodes on buffers are recorded, each behind full barriers of all that it touches.
-ghost use Rattle.std.specs.Prelude.{◌≡◌, ℕ, ◌+◌, ◌<◌, ◌≤◌, ◌==◌, ◌⊎◌, if◌then◌else◌, ◌++◌, ◌≢◌, [], ◌∷◌, length, OnOk, OnErr, IfErr, Err, IfSome, IsSome, slice_set, slice_index_or};
+ghost use Rattle.std.specs.Prelude.{◌≡◌, ℕ, ◌+◌, ◌<◌, ◌≤◌, ◌==◌, ◌⊎◌, if◌then◌else◌, ◌++◌, ◌≢◌, [], ◌∷◌, length, OnOk, OnErr, IfErr, Err, IfSome, IfNone, IsSome, slice_set, slice_index_or};
 ghost use Rattle.vk_device.specs.Faults.{HasCause};
 ghost use Rattle.vk_types.specs.declared.ops.Op.TheVariants as op;
 ghost use Rattle.vk_types.specs.Touches.{the_end};
@@ -14,6 +14,7 @@ ghost use Rattle.front_core.specs.Core.{face, in_hand, HasStore, IsParted, IsQui
 
 use crate::core::Core;
 use crate::pending::Pending;
+use crate::reading_comes_to::waiting_comes_to;
 use crate::recording_comes_to::{
     barrier_comes_to, copy_comes_to, stopped_recording_comes_to, upload_comes_to,
 };
@@ -210,11 +211,15 @@ impl Core {
         ensures err { OnErr result (Owns (face self.now).objects (L.state link.new)) }
         ensures cause { HasCause (L.faults link.old) (L.faults link.new) result }
     {
+        waiting_comes_to();
         for place in 0..8u8 {
             let index = SerialIndex::new(8 * self.group + place);
             let number = self.last_use(index, buffer);
             if number > 0 {
-                link.wait_for(QueueSerial { index, number })?;
+                match link.wait_for(QueueSerial { index, number }) {
+                    Ok(()) => {}
+                    Err(stop) => return Err(stop),
+                }
             }
         }
         Ok(())
@@ -222,7 +227,8 @@ impl Core {
 
     /// The number of the last batch of an index that uses a buffer's store, or 0.
     fn last_use(&self, index: SerialIndex, buffer: u32) -> u64
-        ensures { IfSome ((face self.now).objects (Buffer buffer)) (λ x. result ≡ x.slot.used index) }
+        ensures used { IfSome ((face self.now).objects (Buffer buffer)) (λ x. result ≡ x.slot.used index) }
+        ensures none { IfNone ((face self.now).objects (Buffer buffer)) (result ≡ 0) }
     {
         match self.buffers.get(buffer) {
             Some(store) => store.last_use(index),

@@ -3,11 +3,13 @@
 #![tactic(auto)]
 
 mod fresh_laws;
+mod quiet_laws;
 mod state_laws;
 mod step_laws;
 mod view_laws;
 
 pub use fresh_laws::fresh_handles_show;
+pub use quiet_laws::quiet_objects_show;
 pub use state_laws::{
     accepted_calls_are_in_range, calls_keep_agreement, calls_keep_stores,
     numbers_not_given_are_free, reads_through_a_map_answer,
