@@ -1,20 +1,18 @@
 -- The stores of buffers in a front.
-use mathlib.Core.Path.{fun_ext}
-use Rattle.std.proofs.Common.{◌≡◌, ◌≢◌, ℕ, ◌+◌, ◌<◌, ◌≤◌, ◌==◌, Bool, true, false, List, [], ◌∷◌, refl, sym, ◌∙◌, ap, subst, arith, inl, inr}
-use Rattle.std.specs.Prelude.{◌⊎◌, ◌||◌, Option, Some, None, IfSome, IsSome, slice_get}
+use Rattle.std.proofs.Common.{◌≡◌, ◌≢◌, ℕ, ◌+◌, ◌<◌, ◌≤◌, ◌==◌, false, [], refl, sym, ◌∙◌, ap, subst, arith, inl, inr}
+use Rattle.std.specs.Prelude.{◌⊎◌, Option, Some, None, IfSome}
 use Rattle.std.specs.Option.{option_map}
 use Rattle.std.proofs.lemmas.Bool.{cases_eq, eq-eqb, ne_eqb}
 use Rattle.std.proofs.lemmas.Option.{same_Some}
 use Rattle.vk_types.specs.declared.handles.HandleId.{HandleId}
-use Rattle.vk_types.specs.declared.handles.Kind.{Kind}
 use Rattle.vk_types.specs.declared.handles.Kind.TheVariants as kind
 use Rattle.vk_types.specs.Touches.{the_end}
 use Rattle.vk_model.specs.Fitting.{HasRange}
 use Rattle.tables.specs.Table.{Entries, entry}
 use Rattle.buffer_helper.specs.Buffers.{BufferStore}
 use Rattle.back_core.specs.Link.{Link}
-use Rattle.front_model.specs.Face.{Object, Buffer, Texture, Renderbuffer, Waiting, Stored, Outline, outline, nodes_touch}
-use Rattle.front_model.specs.Stands.{Hands, Holds, Owner, Store, Staging, StoredOwned, Owns}
+use Rattle.front_model.specs.Face.{Object, Buffer, Texture, Renderbuffer, Stored, Outline, outline, nodes_touch}
+use Rattle.front_model.specs.Stands.{Hands, Holds, StoredOwned, Owns}
 use Rattle.front_core.specs.Buffers.{stored_of, objects_of}
 use Rattle.front_core.specs.Core.{CoreParts, face}
 use Rattle.front_core.specs.Recording.{HasBuffer}
@@ -96,6 +94,15 @@ buffer_free c hands s index b id len at size h has of some inside =
 -- the stores have the handles that they had
 abbrev pub KeepsHandles : Entries BufferStore → Entries BufferStore → Type 0
 KeepsHandles old new = (b : ℕ) → option_map (λ (x : BufferStore). x.handle) (entry b new) ≡ option_map (λ (x : BufferStore). x.handle) (entry b old)
+
+pub same_handles : (p q : CoreParts) → p ≡ q → KeepsHandles q.buffers p.buffers
+same_handles p q same b = ap (λ (c : CoreParts). option_map (λ (x : BufferStore). x.handle) (entry b c.buffers)) same
+
+pub same_stores : (old new : Entries BufferStore) → ((b : ℕ) → entry b new ≡ entry b old) → KeepsHandles old new
+same_stores old new same b = ap (option_map (λ (x : BufferStore). x.handle)) (same b)
+
+pub kept_then : (one two three : Entries BufferStore) → KeepsHandles one two → KeepsHandles two three → KeepsHandles one three
+kept_then one two three first second b = second b ∙ first b
 
 pub owns_kept : (old new : Entries BufferStore) (s : Link) → KeepsHandles old new → Owns (objects_of old) s → Owns (objects_of new) s
 owns_kept old new s keeps owns = record { owner = owns.owner; each = each }

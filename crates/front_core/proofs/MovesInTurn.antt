@@ -1,14 +1,15 @@
 -- Moves one after another.
 use mathlib.Core.Path.{fun_ext}
-use Rattle.std.proofs.Common.{◌≡◌, ◌≢◌, ℕ, ◌+◌, ◌-◌, ◌<◌, ◌≤◌, Bool, true, false, cond, List, [], length, refl, sym, ◌∙◌, ap, subst, arith, inl, inr}
-use Rattle.std.specs.Prelude.{◌⊎◌, Option, Some, None, slice_index, slice_index_or, nat_le, nat_lt}
+use Rattle.std.proofs.Common.{◌≡◌, ◌≢◌, ℕ, ◌+◌, ◌-◌, ◌<◌, ◌≤◌, Bool, true, false, cond, List, [], length, refl, sym, ◌∙◌, ap, arith, inl, inr}
+use Rattle.std.specs.Prelude.{◌⊎◌, Some, slice_index, nat_le, nat_lt}
 use Rattle.std.proofs.lemmas.Bool.{and_parts, leb-true, ltb-true}
+use Rattle.std.proofs.lemmas.List.{get_or_default}
 use Rattle.cells.specs.Contents.{UNDEFINED, cell_at, in_range}
 use Rattle.back_core.specs.Link.{Link}
-use Rattle.front_model.specs.Face.{Object, Buffer, Stored, Face, put_object, outline_at, view, recorded, nodes_touch}
+use Rattle.front_model.specs.Face.{Object, Buffer, Face, put_object, outline_at, view, recorded, nodes_touch}
 use Rattle.front_model.specs.Stands.{Moved, IsQuiet}
 use Rattle.front_model.specs.Wanted.{with_bytes, with_copy}
-use Rattle.front_core.specs.Core.{OnlyFlushed, IsParted, HasStore, HasFresh, IsQuietBut, new_cells}
+use Rattle.front_core.specs.Core.{OnlyFlushed, IsParted, HasStore, HasFresh, IsQuietBut}
 
 -- what is shown and quiet is as before
 abbrev pub IsSame : Face → Face → Link → Link → Type 0
@@ -51,7 +52,12 @@ cells_are : (old : ℕ → ℕ) (at : ℕ) (bytes : List ℕ) → with_copy old 
 cells_are old at bytes = fun_ext (λ i. go i (in_range at (length bytes) i) refl)
   where
     go : (i : ℕ) (t : Bool) → in_range at (length bytes) i ≡ t → cond t (cell_at bytes (0 + (i - at))) (old i) ≡ cond t (slice_index bytes (i - at)) (old i)
-    go i true inside = ?
+    go i true inside =
+        let parts = and_parts (nat_le at i) (nat_lt i (at + length bytes)) inside in
+        let first : at ≤ i = leb-true at i parts.0 in
+        let last : i < at + length bytes = ltb-true i (at + length bytes) parts.1 in
+        let none : 0 + (i - at) ≡ i - at = omega arith in
+        ap (cell_at bytes) none ∙ get_or_default bytes (i - at) UNDEFINED 0 (omega (arith, first, last))
     go i false inside = refl
 
 -- an upload after what changes nothing

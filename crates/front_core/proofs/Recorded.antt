@@ -1,6 +1,6 @@
 -- The front after nodes on buffers were added and the stores of the buffers noted their use.
 use mathlib.Core.Path.{fun_ext}
-use Rattle.std.proofs.Common.{◌≡◌, ◌≢◌, ℕ, ◌+◌, ◌-◌, ◌*◌, ◌<◌, ◌≤◌, ◌==◌, max, Bool, true, false, cond, List, [], ◌∷◌, ◌++◌, length, refl, sym, ◌∙◌, ap, subst, arith, inl, inr}
+use Rattle.std.proofs.Common.{◌≡◌, ◌≢◌, ℕ, ◌+◌, ◌-◌, ◌*◌, ◌<◌, ◌≤◌, ◌==◌, max, Bool, true, false, cond, List, [], ◌++◌, length, refl, sym, ◌∙◌, ap, subst, arith, inl, inr}
 use Rattle.std.specs.Prelude.{◌⊎◌, ◌&&◌, nat_le, nat_lt, Option, Some, None, slice_set, slice_index_or}
 use Rattle.std.specs.Option.{option_map}
 use Rattle.std.proofs.lemmas.Bool.{cases_eq, cond-true, cond-false, eq-eqb, ne_eqb, and_from, and_parts, and_right, le-leb, lt-ltb, leb-true}
@@ -18,7 +18,7 @@ use Rattle.submit_queue.specs.Histories.{last_number}
 use Rattle.back_core.specs.Own.{batches_of, last_use}
 use Rattle.back_core.specs.Link.{Link, put}
 use Rattle.back_core.specs.Needs.{IsOfGroup}
-use Rattle.front_model.specs.Face.{Object, Buffer, Texture, Renderbuffer, Stored, Face, Outline, outline, outline_at, nodes_touch}
+use Rattle.front_model.specs.Face.{Object, Buffer, Texture, Renderbuffer, Stored, Face, outline, outline_at, nodes_touch}
 use Rattle.front_model.specs.Stands.{Hands, Holds, use_of}
 use Rattle.front_model.specs.Steps.{noted_store, with_nodes}
 use Rattle.front_model.proofs.Base.{put-same, put-other}

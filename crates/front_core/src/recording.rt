@@ -193,6 +193,7 @@ impl Core {
     {
         match self.buffers.get(buffer) {
             Some(store) => {
+                // so that the size is known to fit
                 let _ = store.size();
                 store.id()
             }

@@ -1,13 +1,10 @@
-use Rattle.std.proofs.Common.{◌≡◌, ◌≢◌, ℕ, ◌+◌, ◌==◌, false, [], ◌∷◌, ◌++◌, refl, sym, ◌∙◌, ap, subst, inl, inr}
-use Rattle.std.specs.Prelude.{Some, IfSome, IsSome}
-use Rattle.std.specs.Option.{option_map}
+use Rattle.std.proofs.Common.{◌≡◌, ℕ, ◌+◌, ◌==◌, false, [], ◌∷◌, ◌++◌, sym, ◌∙◌, ap, subst, inr}
+use Rattle.std.specs.Prelude.{IfSome, IsSome}
 use Rattle.vk_types.specs.declared.handles.HandleId.{HandleId}
 use Rattle.vk_types.specs.declared.handles.Kind.TheVariants as kind
 use Rattle.vk_types.specs.declared.batches.QueueSerial.{QueueSerial}
-use Rattle.tables.specs.Table.{entry}
-use Rattle.buffer_helper.specs.Buffers.{BufferStore}
 use Rattle.back_core.specs.Link.{Link, kinds_of}
-use Rattle.front_model.specs.Face.{Object, Buffer, Stored, Face, outline_at, view, nodes_touch}
+use Rattle.front_model.specs.Face.{Buffer, Stored, Face, outline_at, view, nodes_touch}
 use Rattle.front_model.specs.Stands.{Holds, IsQuiet, no_hands}
 use Rattle.front_model.specs.Steps.{MayRecord, noted_store, with_nodes, full_barrier}
 use Rattle.front_model.proofs.Base.{put-same, put-other, map_is, is_some_of}

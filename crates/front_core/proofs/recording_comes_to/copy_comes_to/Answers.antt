@@ -1,18 +1,13 @@
-use Rattle.std.proofs.Common.{◌≡◌, ◌≢◌, ℕ, ◌+◌, ◌<◌, ◌≤◌, ◌==◌, Bool, true, false, refl, sym, ◌∙◌, ap, subst, arith, inl, inr}
-use Rattle.std.specs.Prelude.{◌⊎◌, ◌||◌, Some}
-use Rattle.std.proofs.lemmas.Bool.{or_from}
+use Rattle.std.proofs.Common.{◌≡◌, ℕ, ◌==◌, refl, sym, ◌∙◌, ap, subst}
+use Rattle.std.specs.Prelude.{◌||◌, Some}
 use Rattle.vk_types.specs.declared.handles.HandleId.{HandleId}
-use Rattle.vk_types.specs.declared.batches.QueueSerial.{QueueSerial}
-use Rattle.vk_types.specs.Touches.{the_end}
 use Rattle.tables.specs.Table.{entry}
 use Rattle.buffer_helper.specs.Buffers.{BufferStore}
-use Rattle.back_core.specs.Link.{Link}
-use Rattle.front_model.specs.Face.{Object, Buffer, Face, outline_at, view, nodes_touch}
+use Rattle.front_model.specs.Face.{Buffer, Face, outline_at, view, nodes_touch}
 use Rattle.front_model.specs.Stands.{Holds, IsQuiet, no_hands}
 use Rattle.front_model.specs.Steps.{MayRecord, with_nodes, fenced}
 use Rattle.front_core.specs.Buffers.{stored_of}
-use Rattle.front_core.specs.Core.{CoreParts, face, IsQuietBut}
-use Rattle.front_core.specs.Recording.{IsNextSerial, HasBuffer, IsRecorded}
+use Rattle.front_core.specs.Core.{CoreParts, face}
 use Rattle.front_core.proofs.Recorded.{face_recorded, outlines_recorded}
 use Rattle.front_core.proofs.Recordable.{copy_node, copy_touches, copy_no_layout, copy_may, IsFree}
 use Rattle.front_core.proofs.BufferStores.{IsStore, store_of, store_at, Distinct, handle_is, other_handle, buffer_free}

@@ -1,5 +1,4 @@
 use Rattle.std.specs.Prelude.{Some}
-use Rattle.std.proofs.Common.{refl}
 use Rattle.vk_types.specs.declared.handles.Kind.TheVariants as kind
 use Rattle.front_model.specs.Stands.{no_hands}
 use Rattle.front_model.specs.Steps.{fresh_slot}

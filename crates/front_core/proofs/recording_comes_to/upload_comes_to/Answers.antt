@@ -1,10 +1,9 @@
-use Rattle.std.proofs.Common.{◌≡◌, ◌≢◌, ℕ, ◌+◌, ◌<◌, ◌≤◌, ◌==◌, false, [], ◌∷◌, ◌++◌, refl, sym, ◌∙◌, ap, subst, arith, inl, inr}
-use Rattle.std.specs.Prelude.{◌||◌, Some, None}
+use Rattle.std.proofs.Common.{◌≡◌, ℕ, ◌+◌, ◌<◌, ◌≤◌, ◌==◌, refl, sym, ◌∙◌, ap, subst, arith}
+use Rattle.std.specs.Prelude.{◌||◌}
 use Rattle.vk_types.specs.declared.handles.HandleId.{HandleId}
 use Rattle.vk_types.specs.declared.handles.Kind.TheVariants as kind
 use Rattle.back_core.specs.Link.{Link, gave}
-use Rattle.back_core.specs.Needs.{MayGive}
-use Rattle.front_model.specs.Face.{Object, Buffer, Stored, Face, outline_at, view, nodes_touch}
+use Rattle.front_model.specs.Face.{Buffer, Face, outline_at, view}
 use Rattle.front_model.specs.Stands.{Hands, Holds, IsQuiet, no_hands}
 use Rattle.front_model.specs.Steps.{MayRecord, fresh_slot, with_nodes, fenced}
 use Rattle.front_core.specs.Buffers.{stored_of}

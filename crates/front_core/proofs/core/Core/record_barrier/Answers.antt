@@ -1,14 +1,12 @@
-use Rattle.std.proofs.Common.{◌≡◌, ℕ, ◌==◌, [], ◌∷◌, ◌++◌, refl, sym, ◌∙◌, ap, subst}
+use Rattle.std.proofs.Common.{◌≡◌, ◌==◌, [], ◌∷◌, ◌++◌, sym, ◌∙◌, subst}
 use Rattle.std.specs.Prelude.{slice_set, slice_index_or}
-use Rattle.std.specs.Option.{option_map}
 use Rattle.vk_types.specs.declared.ops.Node.{Node}
-use Rattle.tables.specs.Table.{entry}
-use Rattle.buffer_helper.specs.Buffers.{BufferStore}
 use Rattle.front_model.specs.Steps.{full_barrier}
 use Rattle.front_core.specs.Core.{CoreParts}
 use Rattle.front_core.specs.Recording.{IsNextSerial, HasBuffer, IsRecorded}
 use Rattle.front_core.proofs.Outcomes.{from_ok, from_not_ok}
-use Rattle.front_core.proofs.BufferStores.{KeepsHandles}
+use Rattle.front_core.proofs.Recorded.{recorded_from}
+use Rattle.front_core.proofs.BufferStores.{KeepsHandles, same_handles, same_stores, kept_then}
 use Rattle.front_core.proofs.core.Core.record_barrier.Given.{Over}
 use Rattle.front_core.proofs.core.Core.record_barrier.Goals as goal
 use Rattle.front_core.proofs.core.Core.record_barrier.Goals.{else-is_ok-via-then-is_ok+else-is_ok-2, else-is_ok-via-else-is_ok}
@@ -24,14 +22,11 @@ new_parts g c = record { indexes = c.self.inside.indexes; pending = c.push.new.s
 
 is_recorded : (g : Over) (c : goal.Then-is_ok-2 g) → IsRecorded c.args.self.now (new_parts g c) c.place-place.result (full_barrier c.id_of-id.result ∷ []) c.args.serial (λ k. k == c.args.buffer)
 is_recorded g c =
-    subst (λ (p : CoreParts). IsRecorded p (new_parts g c) c.place-place.result (full_barrier c.id_of-id.result ∷ []) c.args.serial (λ k. k == c.args.buffer)) c.self.view_is
-    (record {
-      indexes = refl;
-      eight = c.push.ensures.eight;
-      pending = subst (λ (n : Node). c.push.new.self ≡ slice_set c.self.inside.pending c.place-place.result (slice_index_or c.self.inside.pending c.place-place.result [] ++ n ∷ [])) c.barrier.ensures
-          (from_ok c.push.result (sym c.is_ok.ensures.value ∙ c.if-is_ok.true) c.push.ensures.ok);
-      buffers = from_ok c.note.result (sym c.is_ok-then-is_ok.ensures.value ∙ c.if-is_ok-2.true) c.note.ensures.ok;
-    })
+    recorded_from c.args.self.now c.self.inside.indexes c.self.inside.pending c.push.new.self c.self.inside.buffers c.note.new.self c.place-place.result
+    (full_barrier c.id_of-id.result ∷ []) c.args.serial (λ k. k == c.args.buffer) c.self.view_is c.push.ensures.eight
+    (subst (λ (n : Node). c.push.new.self ≡ slice_set c.self.inside.pending c.place-place.result (slice_index_or c.self.inside.pending c.place-place.result [] ++ n ∷ [])) c.barrier.ensures
+    (from_ok c.push.result (sym c.is_ok.ensures.value ∙ c.if-is_ok.true) c.push.ensures.ok))
+    (from_ok c.note.result (sym c.is_ok-then-is_ok.ensures.value ∙ c.if-is_ok-2.true) c.note.ensures.ok)
 
 pub returns-then-is_ok-2-clause-moved : goal.returns-then-is_ok-2-clause-moved
 returns-then-is_ok-2-clause-moved g c =
@@ -50,12 +45,11 @@ returns-then-is_ok-2-clause-behind g c =
 
 pub returns-clause-err : goal.returns-clause-err
 returns-clause-err g c =
-    let was : (b : ℕ) → option_map (λ (x : BufferStore). x.handle) (entry b c.self.inside.buffers) ≡ option_map (λ (x : BufferStore). x.handle) (entry b c.args.self.now.buffers) =
-    λ b. ap (λ (p : CoreParts). option_map (λ (x : BufferStore). x.handle) (entry b p.buffers)) c.self.view_is in
+    let was : KeepsHandles c.args.self.now.buffers c.self.inside.buffers = same_handles (record { indexes = c.self.inside.indexes; pending = c.self.inside.pending; buffers = c.self.inside.buffers }) c.args.self.now c.self.view_is in
     let keeps : KeepsHandles c.args.self.now.buffers c.else-is_ok.self.buffers =
     elim c.else-is_ok.branch [
-      | else-is_ok-via-then-is_ok+else-is_ok-2 w ↦ λ b. ap (λ (p : CoreParts). option_map (λ (x : BufferStore). x.handle) (entry b p.buffers)) w.self-is
-          ∙ ap (option_map (λ (x : BufferStore). x.handle)) (from_not_ok w.note.result (sym w.is_ok-then-is_ok.ensures.value ∙ w.if-is_ok-2.false) w.note.ensures.err b) ∙ was b
-      | else-is_ok-via-else-is_ok w ↦ λ b. ap (λ (p : CoreParts). option_map (λ (x : BufferStore). x.handle) (entry b p.buffers)) w.self-is ∙ was b
+      | else-is_ok-via-then-is_ok+else-is_ok-2 w ↦ kept_then c.args.self.now.buffers w.note.new.self c.else-is_ok.self.buffers
+          (kept_then c.args.self.now.buffers c.self.inside.buffers w.note.new.self was (same_stores c.self.inside.buffers w.note.new.self (from_not_ok w.note.result (sym w.is_ok-then-is_ok.ensures.value ∙ w.if-is_ok-2.false) w.note.ensures.err))) (same_handles c.else-is_ok.self _ w.self-is)
+      | else-is_ok-via-else-is_ok w ↦ kept_then c.args.self.now.buffers c.self.inside.buffers c.else-is_ok.self.buffers was (same_handles c.else-is_ok.self _ w.self-is)
     ] in
     c.stopped_recording_comes_to.ensures.owns c.args.self.now c.else-is_ok.self (g.L.BackLink.state c.args.link.now) c.requires.holds keeps

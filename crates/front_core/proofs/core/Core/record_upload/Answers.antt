@@ -1,12 +1,9 @@
-use Rattle.std.proofs.Common.{◌≡◌, ℕ, ◌+◌, ◌≤◌, ◌==◌, List, [], ◌++◌, refl, sym, ◌∙◌, ap, subst, arith}
+use Rattle.std.proofs.Common.{◌≡◌, ◌≤◌, ◌==◌, [], ◌++◌, sym, ◌∙◌, subst, arith}
 use Rattle.std.specs.Prelude.{slice_set, slice_index_or}
-use Rattle.std.specs.Option.{option_map}
 use Rattle.vk_types.specs.declared.handles.HandleId.{HandleId}
 use Rattle.vk_types.specs.declared.handles.Kind.TheVariants as kind
 use Rattle.vk_types.specs.Touches.{the_end}
-use Rattle.tables.specs.Table.{entry}
-use Rattle.buffer_helper.specs.Buffers.{BufferStore}
-use Rattle.back_core.specs.Link.{Link, gave, abandoned}
+use Rattle.back_core.specs.Link.{Link}
 use Rattle.front_model.specs.Face.{Buffer, put_object, outline_at, view, recorded}
 use Rattle.front_model.specs.Stands.{Moved, Owns}
 use Rattle.front_model.specs.Steps.{fresh_slot, fenced}
@@ -16,7 +13,7 @@ use Rattle.front_core.specs.Recording.{IsNextSerial, HasBuffer, IsRecorded}
 use Rattle.front_core.proofs.Outcomes.{from_ok, from_not_ok}
 use Rattle.front_core.proofs.Recorded.{recorded_from}
 use Rattle.front_core.proofs.Recordable.{copy_node}
-use Rattle.front_core.proofs.BufferStores.{KeepsHandles}
+use Rattle.front_core.proofs.BufferStores.{KeepsHandles, same_handles, same_stores, kept_then}
 use Rattle.front_core.proofs.Uploads.{hand_at}
 use Rattle.front_core.proofs.core.Core.record_upload.Given.{Over}
 use Rattle.front_core.proofs.core.Core.record_upload.Goals as goal
@@ -63,13 +60,12 @@ abandon-requires g c = (c.requires.holds.hands_stand c.args.staging.handle.0 (fr
 pub returns-clause-err : goal.returns-clause-err
 returns-clause-err g c =
     let s : Link = g.L.BackLink.state c.args.link.now in
-    let was : (b : ℕ) → option_map (λ (x : BufferStore). x.handle) (entry b c.self.inside.buffers) ≡ option_map (λ (x : BufferStore). x.handle) (entry b c.args.self.now.buffers) =
-    λ b. ap (λ (p : CoreParts). option_map (λ (x : BufferStore). x.handle) (entry b p.buffers)) c.self.view_is in
+    let was : KeepsHandles c.args.self.now.buffers c.self.inside.buffers = same_handles (record { indexes = c.self.inside.indexes; pending = c.self.inside.pending; buffers = c.self.inside.buffers }) c.args.self.now c.self.view_is in
     let keeps : KeepsHandles c.args.self.now.buffers c.else-is_ok.self.buffers =
     elim c.else-is_ok.branch [
-      | else-is_ok-via-then-is_ok+else-is_ok-2 w ↦ λ b. ap (λ (p : CoreParts). option_map (λ (x : BufferStore). x.handle) (entry b p.buffers)) w.self-is
-          ∙ ap (option_map (λ (x : BufferStore). x.handle)) (from_not_ok w.note.result (sym w.is_ok-then-is_ok.ensures.value ∙ w.if-is_ok-2.false) w.note.ensures.err b) ∙ was b
-      | else-is_ok-via-else-is_ok w ↦ λ b. ap (λ (p : CoreParts). option_map (λ (x : BufferStore). x.handle) (entry b p.buffers)) w.self-is ∙ was b
+      | else-is_ok-via-then-is_ok+else-is_ok-2 w ↦ kept_then c.args.self.now.buffers w.note.new.self c.else-is_ok.self.buffers
+          (kept_then c.args.self.now.buffers c.self.inside.buffers w.note.new.self was (same_stores c.self.inside.buffers w.note.new.self (from_not_ok w.note.result (sym w.is_ok-then-is_ok.ensures.value ∙ w.if-is_ok-2.false) w.note.ensures.err))) (same_handles c.else-is_ok.self _ w.self-is)
+      | else-is_ok-via-else-is_ok w ↦ kept_then c.args.self.now.buffers c.self.inside.buffers c.else-is_ok.self.buffers was (same_handles c.else-is_ok.self _ w.self-is)
     ] in
     subst (Owns (face c.else-is_ok.self).objects) (sym c.abandon.ensures.state)
     (c.stopped_recording_comes_to.ensures.lets_go c.args.self.now c.else-is_ok.self s c.args.staging.handle.0 c.args.len c.requires.holds keeps)
