@@ -49,6 +49,16 @@ batch_flushed f g s t index batch is_face is_link next_ holds shows stays =
       log = log_then s.mine (Enqueued batch) ∙ ap (λ nodes. log_of s.mine ++ commands 0 nodes) next_.all;
     }))
 
+-- what is known of a core at the place of an index
+pub record IsAtPlace (c : CoreParts) (s : Link) (index place : ℕ) : Type 0 where
+  pub holds : Holds (face c) no_hands s
+  pub own : IsOfGroup c.indexes.group index
+  pub at : place + 8 * c.indexes.group ≡ index
+
+pub same_place : (c d : CoreParts) (s : Link) (index place : ℕ) → c ≡ d → Holds (face d) no_hands s → IsOfGroup d.indexes.group index → place + 8 * d.indexes.group ≡ index →
+    IsAtPlace c s index place
+same_place c d s index place same h own at = subst (λ x. IsAtPlace x s index place) (sym same) (record { holds = h; own = own; at = at })
+
 -- the next batch of an index
 pub next_batch : (c : CoreParts) (index place : ℕ) (batch : Batch) → IsOfGroup c.indexes.group index → place + 8 * c.indexes.group ≡ index →
     batch.index ≡ index → batch.number ≡ last_of c.indexes index + 1 → batch.nodes ≡ slice_index_or c.pending place [] → IsOfOneQueue batch →
