@@ -43,7 +43,7 @@ pub store_of : (f : Face) (b len : ℕ) → HasStore f b len → (x : Stored) ×
 store_of f b len has = go (f.objects (Buffer b)) refl has
   where
     go : (o : Option Stored) → f.objects (Buffer b) ≡ o → option_map outline o ≡ Some (record { kind = kind.Buffer len; waiting = [] }) →
-      (x : Stored) × (f.objects (Buffer b) ≡ Some x) × (x.waiting ≡ [])
+        (x : Stored) × (f.objects (Buffer b) ≡ Some x) × (x.waiting ≡ [])
     go (Some x) is has = (x, is, unmapped (λ w. part_of w.node.op) x.waiting (ap waiting_in has))
     go None is has = absurd cc
 

@@ -84,7 +84,7 @@ waited_more f s t u b place index number h apart waited more at used reached = r
 }
   where
     go : (i : ℕ) (x : Stored) → 8 * f.group ≤ i → i < 8 * f.group + (place + 1) → f.objects (Buffer b) ≡ Some x → (i < 8 * f.group + place) ⊎ (8 * f.group + place ≤ i) →
-      last_use s.mine i x.handle ≤ u.done i
+        last_use s.mine i x.handle ≤ u.done i
     go i x low high is (inl below) =
         let before : last_use s.mine i x.handle ≤ t.done i = waited.covered i x low below is in
         let rises : t.done i ≤ u.done i = more.rises i in

@@ -25,8 +25,8 @@ returns-in-Ok-flush-clause-quiet g c =
     let u : Link = g.L.BackLink.state c.flush.new.link in
     let v : Link = g.L.BackLink.state c.wait_for_uses.new.link in
     let has : HasStore k c.args.buffer c.requires.store.0 =
-      ap (λ (o : Object → Option Outline). o (Buffer c.args.buffer)) (c.in-Ok-flush.ensures.moved.outlines_are ∙ c.in-Ok-record_barrier.ensures.moved.outlines_are ∙ c.in-Ok.ensures.moved.outlines_are)
-      ∙ c.requires.store.1 in
+    ap (λ (o : Object → Option Outline). o (Buffer c.args.buffer)) (c.in-Ok-flush.ensures.moved.outlines_are ∙ c.in-Ok-record_barrier.ensures.moved.outlines_are ∙ c.in-Ok.ensures.moved.outlines_are)
+    ∙ c.requires.store.1 in
     let parted : IsParted f c.args.index c.args.buffer = subst (λ i. IsParted f i c.args.buffer) c.next_serial-serial.ensures.index c.in-Ok-record_barrier.ensures.parted in
     let behind : EndsWithBarrier f c.args.index c.args.buffer = subst (λ i. EndsWithBarrier f i c.args.buffer) c.next_serial-serial.ensures.index c.in-Ok-record_barrier.ensures.behind in
     on_ok_both c.wait_for_uses.result
@@ -41,5 +41,5 @@ returns-in-Ok-flush-clause-moved g c =
     let v : Link = g.L.BackLink.state c.wait_for_uses.new.link in
     on_ok_both c.wait_for_uses.result
     (λ moved quiet. settled (face c.args.self.now) (face c.prepare.new.self) (face c.record_barrier.new.self) (face c.flush.new.self) s t u v c.args.buffer
-      c.in-Ok.ensures.moved c.in-Ok-record_barrier.ensures.moved c.in-Ok-flush.ensures.moved moved quiet)
+    c.in-Ok.ensures.moved c.in-Ok-record_barrier.ensures.moved c.in-Ok-flush.ensures.moved moved quiet)
     c.wait_for_uses.ensures.moved (returns-in-Ok-flush-clause-quiet g c)

@@ -28,26 +28,26 @@ loop-place-preserved g c =
     let t : Link = g.L.BackLink.state c.loop-place.link in
     let u : Link = g.L.BackLink.state c.if-number-gt0.link in
     let at : c.new-index.result ≡ 8 * f.group + c.loop-place.place =
-      c.new-index.ensures ∙ ap (λ n. 8 * n + c.loop-place.place) (c.self.invariant.0 ∙ ap (λ (x : CoreParts). x.indexes.group) c.self.view_is) in
+    c.new-index.ensures ∙ ap (λ n. 8 * n + c.loop-place.place) (c.self.invariant.0 ∙ ap (λ (x : CoreParts). x.indexes.group) c.self.view_is) in
     elim c.if-number-gt0.branch [
       | then-number-gt0+in-Ok w ↦
-        let v : Link = g.L.BackLink.state w.wait_for.new.self in
-        let same : v ≡ u = ap g.L.BackLink.state (sym w.link-is) in
-        record {
-          waited = subst (λ x. WaitedTo f s x c.args.buffer (c.loop-place.place + 1)) same
-            (waited_more f s t v c.args.buffer c.loop-place.place c.new-index.result c.last_use-number.result c.requires.holds c.requires.untouched c.loop-place.invariant.waited
-            w.in-Ok.ensures.ok.learns at c.last_use-number.ensures.used w.in-Ok.ensures.ok.reached);
-          faults =
-            let later : g.L.BackLink.faults c.loop-place.link ≤ g.L.BackLink.faults w.wait_for.new.self = w.wait_for.ensures.cause.later in
-            let before : g.L.BackLink.faults c.args.link.now ≤ g.L.BackLink.faults c.loop-place.link = c.loop-place.invariant.faults in
-            subst (λ l. g.L.BackLink.faults c.args.link.now ≤ g.L.BackLink.faults l) (sym w.link-is) (omega arith);
-        }
+          let v : Link = g.L.BackLink.state w.wait_for.new.self in
+          let same : v ≡ u = ap g.L.BackLink.state (sym w.link-is) in
+          record {
+            waited = subst (λ x. WaitedTo f s x c.args.buffer (c.loop-place.place + 1)) same
+                (waited_more f s t v c.args.buffer c.loop-place.place c.new-index.result c.last_use-number.result c.requires.holds c.requires.untouched c.loop-place.invariant.waited
+                w.in-Ok.ensures.ok.learns at c.last_use-number.ensures.used w.in-Ok.ensures.ok.reached);
+            faults =
+                let later : g.L.BackLink.faults c.loop-place.link ≤ g.L.BackLink.faults w.wait_for.new.self = w.wait_for.ensures.cause.later in
+                let before : g.L.BackLink.faults c.args.link.now ≤ g.L.BackLink.faults c.loop-place.link = c.loop-place.invariant.faults in
+                subst (λ l. g.L.BackLink.faults c.args.link.now ≤ g.L.BackLink.faults l) (sym w.link-is) (omega arith);
+          }
       | else-number-gt0 w ↦ record {
-          waited = subst (λ l. WaitedTo f s (g.L.BackLink.state l) c.args.buffer (c.loop-place.place + 1)) (sym w.link-is)
+        waited = subst (λ l. WaitedTo f s (g.L.BackLink.state l) c.args.buffer (c.loop-place.place + 1)) (sym w.link-is)
             (waited_more f s t t c.args.buffer c.loop-place.place c.new-index.result c.last_use-number.result c.requires.holds c.requires.untouched c.loop-place.invariant.waited
             (learns_nothing t) at c.last_use-number.ensures.used (let none : c.last_use-number.result ≤ 0 = w.if-number-gt0.false in omega arith));
-          faults = subst (λ l. g.L.BackLink.faults c.args.link.now ≤ g.L.BackLink.faults l) (sym w.link-is) c.loop-place.invariant.faults;
-        }
+        faults = subst (λ l. g.L.BackLink.faults c.args.link.now ≤ g.L.BackLink.faults l) (sym w.link-is) c.loop-place.invariant.faults;
+      }
     ]
 
 pub returns-clause-moved : goal.returns-clause-moved
