@@ -7,8 +7,8 @@ use Rattle.vk_types.specs.declared.handles.HandleId.{HandleId}
 use Rattle.vk_types.specs.declared.handles.Kind.TheVariants as kind
 use Rattle.vk_types.specs.declared.ops.Node.{Node}
 use Rattle.vk_model.specs.Log.{Item, commands}
-use Rattle.back_core.specs.Own.{log_of, last_use, IsReadable}
-use Rattle.back_core.specs.Link.{Link, put}
+use Rattle.back_core.specs.Own.{log_of, IsReadable}
+use Rattle.back_core.specs.Link.{Link}
 use Rattle.front_model.specs.Face.{Object, Buffer, Stored, Outline, Part, part_of, Face, outline, outline_at, view, nodes_touch}
 use Rattle.front_model.specs.Stands.{Moved, IsQuiet}
 use Rattle.front_model.specs.Steps.{full_barrier}

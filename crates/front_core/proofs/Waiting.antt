@@ -1,5 +1,5 @@
 -- How far waiting for the batches that use a buffer has come.
-use Rattle.std.proofs.Common.{◌≡◌, ℕ, ◌+◌, ◌*◌, ◌<◌, ◌≤◌, refl, sym, ap, subst, ◌∙◌, arith, inl, inr, true, false}
+use Rattle.std.proofs.Common.{◌≡◌, ℕ, ◌+◌, ◌*◌, ◌<◌, ◌≤◌, refl, sym, ap, subst, ◌∙◌, arith, inl, inr}
 use Rattle.std.specs.Prelude.{◌⊎◌, Option, Some, None, IfSome, IfNone}
 use Rattle.std.proofs.lemmas.Bool.{cases_lt, cond-false}
 use Rattle.back_core.specs.Own.{last_use}
@@ -7,7 +7,7 @@ use Rattle.back_core.specs.Link.{Link, Asked}
 use Rattle.back_core.specs.Needs.{IsOfGroup}
 use Rattle.back_core.specs.Answers.{NowRises, AskedRises, Learns}
 use Rattle.front_model.specs.Face.{Buffer, Stored, Face, nodes_touch}
-use Rattle.front_model.specs.Stands.{Holds, no_hands, use_of}
+use Rattle.front_model.specs.Stands.{Holds, no_hands}
 use Rattle.front_model.proofs.LinkSteps.{own_or_not}
 use Rattle.front_core.specs.Core.{IsUntouched, IsRetired}
 

@@ -1,4 +1,4 @@
-use Rattle.std.proofs.Common.{◌≡◌, ◌≤◌, refl, sym, subst}
+use Rattle.std.proofs.Common.{◌≤◌, refl, sym, subst}
 use Rattle.back_core.specs.Needs.{HasBatch}
 use Rattle.front_model.specs.Face.{Buffer}
 use Rattle.front_model.specs.Stands.{no_hands}

@@ -1,8 +1,7 @@
-use Rattle.std.proofs.Common.{◌≡◌, ap, subst, ◌∙◌}
+use Rattle.std.proofs.Common.{ap, subst, ◌∙◌}
 use Rattle.std.specs.Prelude.{Option}
 use Rattle.back_core.specs.Link.{Link}
-use Rattle.front_model.specs.Face.{Object, Buffer, Face, Outline, outline_at}
-use Rattle.front_model.specs.Stands.{IsQuiet}
+use Rattle.front_model.specs.Face.{Object, Buffer, Face, Outline}
 use Rattle.front_core.specs.Core.{face, HasStore, IsParted, EndsWithBarrier}
 use Rattle.front_core.proofs.Preparing.{on_ok_both}
 use Rattle.front_core.proofs.Settling.{untouched_after, quiet_after, settled}

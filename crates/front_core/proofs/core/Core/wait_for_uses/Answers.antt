@@ -1,6 +1,5 @@
 use Rattle.std.proofs.Common.{◌≡◌, ◌≤◌, ◌+◌, ◌*◌, sym, ap, subst, ◌∙◌, arith}
 use Rattle.back_core.specs.Link.{Link}
-use Rattle.back_core.specs.Needs.{HasBatch}
 use Rattle.front_model.specs.Face.{Buffer, Face}
 use Rattle.front_core.specs.Core.{CoreParts, face}
 use Rattle.front_core.proofs.Waiting.{WaitedTo, learns_nothing, learns_then, used_by, waited_more}
