@@ -3,7 +3,7 @@
 
 mod buffers;
 mod comes_to;
-mod core;
+mod group_core;
 mod moves;
 mod pending;
 mod reading_comes_to;

@@ -8,7 +8,7 @@ ghost use Rattle.front_model.specs.Stands.{Holds, Owns, Moved, IsQuiet, no_hands
 ghost use Rattle.front_model.specs.Wanted.{with_bytes, with_copy};
 ghost use Rattle.front_core.specs.Core.{face, HasStore, IsQuietBut, outline_of_size, new_cells};
 
-use crate::core::Core;
+use crate::group_core::Core;
 use crate::reading_comes_to::{host_comes_to, settle_comes_to};
 use crate::stores_come_to::end_comes_to;
 use back_core::BackLink;

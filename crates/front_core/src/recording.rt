@@ -12,7 +12,7 @@ ghost use Rattle.front_model.specs.Steps.{full_barrier, fenced};
 ghost use Rattle.front_model.specs.Wanted.{with_copy};
 ghost use Rattle.front_core.specs.Core.{face, in_hand, HasStore, IsParted, IsQuietBut, IsUntouched, IsRetired, EndsWithBarrier};
 
-use crate::core::Core;
+use crate::group_core::Core;
 use crate::pending::Pending;
 use crate::reading_comes_to::waiting_comes_to;
 use crate::recording_comes_to::{

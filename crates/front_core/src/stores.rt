@@ -6,7 +6,7 @@ ghost use Rattle.front_model.specs.Face.{Buffer, put_object, outline_at, view, r
 ghost use Rattle.front_model.specs.Stands.{Holds, Owns, Moved, no_hands};
 ghost use Rattle.front_core.specs.Core.{face, in_hand, HasFresh, IsQuietBut, outline_of_size};
 
-use crate::core::Core;
+use crate::group_core::Core;
 use crate::stores_come_to::{begin_comes_to, blank_comes_to, filled_comes_to};
 use back_core::BackLink;
 use buffer_helper::BufferHelper;

@@ -1,0 +1,15 @@
+use Rattle.std.proofs.Common.{None}
+use Rattle.std.proofs.lemmas.Result.{on_ok_weaker}
+use Rattle.front_core.specs.Core.{face}
+use Rattle.front_core.proofs.BufferLaws.{ended_none, stored_anew}
+use Rattle.front_core.proofs.group_core.Core.store_blank.Goals as goal
+
+pub begin-requires-clause-none : goal.begin-requires-clause-none
+begin-requires-clause-none g c = ended_none (face c.args.self.now) (face c.end.new.self) (g.L.BackLink.state c.args.link.now) (g.L.BackLink.state c.end.new.link) c.args.buffer c.end.ensures.moved
+
+pub returns-in-Ok-clause-moved : goal.returns-in-Ok-clause-moved
+returns-in-Ok-clause-moved g c =
+    on_ok_weaker c.begin.result
+    (stored_anew (face c.args.self.now) (face c.end.new.self) (face c.begin.new.self) (g.L.BackLink.state c.args.link.now) (g.L.BackLink.state c.end.new.link) (g.L.BackLink.state c.blank.new.link) (g.L.BackLink.state c.begin.new.link)
+    c.args.buffer c.in-Ok.fresh.0 c.args.size None c.end.ensures.moved c.in-Ok.ensures.ok)
+    c.begin.ensures.moved
