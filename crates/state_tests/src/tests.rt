@@ -1,11 +1,16 @@
 use gl_calls::{BindTarget, BufferTarget, Call, ObjectKind, Reply};
 use gl_errors::{Decision, decide};
-use gl_state::{Applied, SharedState, apply};
+use gl_state::{Applied, Ended, SharedState, apply};
 use std::alloc::{AllocError, Global};
 use std::test::Fail;
 
 /// Applies a call where it is accepted on a declared thread.
-fn step(alloc: Global, state: &mut SharedState, thread: u32, call: &Call) -> Result<Option<Applied>, AllocError> {
+fn step(
+    alloc: Global,
+    state: &mut SharedState,
+    thread: u32,
+    call: &Call,
+) -> Result<Option<Applied>, AllocError> {
     if !state.group().threads.contains_key(thread) {
         return Ok(None);
     }
@@ -16,9 +21,18 @@ fn step(alloc: Global, state: &mut SharedState, thread: u32, call: &Call) -> Res
 }
 
 /// The buffers that end with a call, and none where it is refused.
-fn ended(alloc: Global, state: &mut SharedState, thread: u32, call: &Call) -> Result<Vec<u32>, AllocError> {
+fn ended(
+    alloc: Global,
+    state: &mut SharedState,
+    thread: u32,
+    call: &Call,
+) -> Result<Vec<u32>, AllocError> {
     match step(alloc, state, thread, call)? {
-        Some(applied) => Ok(applied.ended.buffers),
+        Some(applied) => {
+            let Applied { ended, .. } = applied;
+            let Ended { buffers, .. } = ended;
+            Ok(buffers)
+        }
         None => Ok(Vec::new(alloc)),
     }
 }
@@ -26,10 +40,13 @@ fn ended(alloc: Global, state: &mut SharedState, thread: u32, call: &Call) -> Re
 /// The names that a call generates.
 fn named(alloc: Global, state: &mut SharedState, call: &Call) -> Result<Vec<u32>, AllocError> {
     match step(alloc, state, 1, call)? {
-        Some(applied) => match applied.reply {
-            Some(Reply::Names(names)) => Ok(names.into_vec()),
-            _ => Ok(Vec::new(alloc)),
-        },
+        Some(applied) => {
+            let Applied { reply, .. } = applied;
+            match reply {
+                Some(Reply::Names(names)) => Ok(names.into_vec()),
+                _ => Ok(Vec::new(alloc)),
+            }
+        }
         None => Ok(Vec::new(alloc)),
     }
 }
@@ -62,14 +79,23 @@ fn names_and_buffers_come_and_go(rt: HostRuntime) -> Result<(), Fail> {
     }
     step(alloc, &mut state, 1, &Call::MakeCurrent { number: 1 })?;
     step(alloc, &mut state, 2, &Call::MakeCurrent { number: 2 })?;
-    assert_eq!(rt; named(alloc, &mut state, &GEN)?.as_slice(), [1, 2].as_slice());
+    assert_eq!(rt;
+        named(alloc, &mut state, &GEN)?.as_slice(),
+        [1, 2].as_slice()
+    );
     step(alloc, &mut state, 1, &delete(1))?;
-    assert_eq!(rt; named(alloc, &mut state, &GEN)?.as_slice(), [1, 3].as_slice());
+    assert_eq!(rt;
+        named(alloc, &mut state, &GEN)?.as_slice(),
+        [1, 3].as_slice()
+    );
     // A buffer that is deleted while another context has it bound lives on until that binding goes.
     step(alloc, &mut state, 1, &bind(2))?;
     step(alloc, &mut state, 2, &bind(2))?;
     assert_eq!(rt; ended(alloc, &mut state, 1, &delete(2))?.len(), 0);
-    assert_eq!(rt; ended(alloc, &mut state, 2, &bind(0))?.as_slice(), [0].as_slice());
+    assert_eq!(rt;
+        ended(alloc, &mut state, 2, &bind(0))?.as_slice(),
+        [0].as_slice()
+    );
     // A context that ends releases what it has bound.
     step(alloc, &mut state, 2, &bind(7))?;
     assert_eq!(rt; ended(alloc, &mut state, 1, &delete(7))?.len(), 0);
