@@ -10,19 +10,19 @@ use Rattle.gl_objects.proofs.table.NameTable.bind_new.Goals as goal
 pub invariant_of-self-2 : goal.invariant_of-self-2
 invariant_of-self-2 c = record {
   sound =
-    let inside = c.self.inside in
-    let id = c.new-id.result in
-    let slots = ap (λ s. s.slots) c.in_ok-reserve.ensures.rest_kept in
-    let key : c.insert_reserved.result ≡ key_of id = c.insert_reserved.ensures.key ∙ sym c.vacant_key.ensures.value ∙ sym c.new-id.ensures.key in
-    let made = c.insert_reserved.ensures.updates in
-    let none = rw (← c.self.view_is) at c.requires.no_object in
-    IsSound-bound _ _ _ _ _ c.args.name id c.self.invariant.sound c.in_ok-give_object.ensures.sets c.new-id.ensures.number
-    (λ next has. no_object-numbered inside.names inside.made c.args.name next none has)
-    (rw (← key, ← slots) c.insert_reserved.ensures.was_vacant)
-    (record {
-      here = rw (← key) (made.changed ∙ ap (λ n. Some (record { number = n; name = Some c.args.name; holds = 0 })) (sym c.new-id.ensures.number));
-      others = λ other differs. made.others other (λ e. differs (e ∙ key)) ∙ ap (λ xs. object_at xs other) slots;
-    });
+      let inside = c.self.inside in
+      let id = c.new-id.result in
+      let slots = ap (λ s. s.slots) c.in_ok-reserve.ensures.rest_kept in
+      let key : c.insert_reserved.result ≡ key_of id = c.insert_reserved.ensures.key ∙ sym c.vacant_key.ensures.value ∙ sym c.new-id.ensures.key in
+      let made = c.insert_reserved.ensures.updates in
+      let none = rw (← c.self.view_is) at c.requires.no_object in
+      IsSound-bound _ _ _ _ _ c.args.name id c.self.invariant.sound c.in_ok-give_object.ensures.sets c.new-id.ensures.number
+      (λ next has. no_object-numbered inside.names inside.made c.args.name next none has)
+      (rw (← key, ← slots) c.insert_reserved.ensures.was_vacant)
+      (record {
+        here = rw (← key) (made.changed ∙ ap (λ n. Some (record { number = n; name = Some c.args.name; holds = 0 })) (sym c.new-id.ensures.number));
+        others = λ other differs. made.others other (λ e. differs (e ∙ key)) ∙ ap (λ xs. object_at xs other) slots;
+      });
   fits = rw c.in_ok-give_object.ensures.entries (Fits-given c.note_used.new.self c.args.name (Some c.new-id.result) c.self.inside.names (c.note_used.ensures (λ (n : ℕ). has n c.self.inside.names) c.self.invariant.fits));
 }
 

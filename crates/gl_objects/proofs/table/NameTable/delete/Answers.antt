@@ -11,8 +11,8 @@ use Rattle.gl_objects.proofs.table.NameTable.delete.Goals as goal
 pub invariant_of-self : goal.invariant_of-self
 invariant_of-self c = record {
   sound =
-    let removed = c.remove_name-object in
-    IsSound-deleted _ _ _ _ _ c.args.name removed.result c.self.invariant.sound removed.ensures.sets removed.ensures.object c.take_name.ensures;
+      let removed = c.remove_name-object in
+      IsSound-deleted _ _ _ _ _ c.args.name removed.result c.self.invariant.sound removed.ensures.sets removed.ensures.object c.take_name.ensures;
   fits = rw c.remove_name-object.ensures.entries (Fits-taken c.note_unused.new.self c.args.name c.self.inside.names c.remove_name-object.ensures.ordered (c.note_unused.ensures (λ (n : ℕ). has n c.self.inside.names) c.self.invariant.fits));
 }
 
