@@ -1,15 +1,14 @@
 -- Names that are generated, and forgotten.
-use Rattle.std.proofs.Common.{◌≡◌, ℕ, ◌==◌, ◌||◌, zero, suc, Bool, true, false, not, cond, is_some, Option, Some, None, List, [], ◌∷◌, length, take, drop, refl, sym, ap, ◌∙◌, arith}
+use Rattle.std.proofs.Common.{◌≡◌, ℕ, ◌==◌, ◌||◌, suc, Bool, true, false, not, cond, is_some, Option, Some, None, List, [], ◌∷◌, length, take, refl, sym, ap, ◌∙◌, arith}
 use Rattle.std.specs.List.{list_any, range_with_len}
 use Rattle.std.specs.Option.{option_map}
 use Rattle.std.proofs.lemmas.Bool.{false≢true}
 use Rattle.std.proofs.lemmas.Grind.{common_steps}
-use Rattle.tables.specs.Table.{Entries, entry, has, with_entry, without, each_value}
+use Rattle.tables.specs.Table.{Entries, entry, has, with_entry, each_value}
 use Rattle.gl_model.specs.GroupEffect.{lowest_unused, with_generated}
-use Rattle.gl_model.proofs.TableLaws.{is_at-nat_cmp, entry-with_entry}
 use Rattle.gl_objects.specs.declared.ids.ObjectId.{ObjectId}
 use Rattle.gl_objects.specs.declared.object.Object.{Object}
-use Rattle.gl_objects.specs.Names.{AreUnused, without_all}
+use Rattle.gl_objects.specs.Names.{AreUnused}
 use Rattle.gl_objects.specs.Objects.{IsSound}
 use Rattle.unused_names.proofs.LowestNames.{filter-same}
 use Rattle.unused_names.proofs.Generated.{entry-with_generated}

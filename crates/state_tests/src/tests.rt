@@ -1,6 +1,6 @@
 use gl_calls::{BindTarget, BufferTarget, Call, ObjectKind, Reply};
 use gl_errors::{Decision, decide};
-use gl_state::{Applied, SharedState, apply};
+use gl_state::{Applied, Ended, SharedState, apply};
 use std::alloc::{AllocError, Global};
 use std::test::Fail;
 
@@ -28,7 +28,11 @@ fn ended(
     call: &Call,
 ) -> Result<Vec<u32>, AllocError> {
     match step(alloc, state, thread, call)? {
-        Some(applied) => Ok(applied.ended.buffers),
+        Some(applied) => {
+            let Applied { ended, .. } = applied;
+            let Ended { buffers, .. } = ended;
+            Ok(buffers)
+        }
         None => Ok(Vec::new(alloc)),
     }
 }
@@ -36,10 +40,13 @@ fn ended(
 /// The names that a call generates.
 fn named(alloc: Global, state: &mut SharedState, call: &Call) -> Result<Vec<u32>, AllocError> {
     match step(alloc, state, 1, call)? {
-        Some(applied) => match applied.reply {
-            Some(Reply::Names(names)) => Ok(names.into_vec()),
-            _ => Ok(Vec::new(alloc)),
-        },
+        Some(applied) => {
+            let Applied { reply, .. } = applied;
+            match reply {
+                Some(Reply::Names(names)) => Ok(names.into_vec()),
+                _ => Ok(Vec::new(alloc)),
+            }
+        }
         None => Ok(Vec::new(alloc)),
     }
 }

@@ -1,4 +1,4 @@
-use Rattle.std.proofs.Common.{◌≡◌, ℕ, [], Option, None, refl}
+use Rattle.std.proofs.Common.{◌≡◌, ℕ, [], None, refl}
 use Rattle.gl_objects.specs.Objects.{IsSound, object_at}
 use Rattle.gl_objects.proofs.table.NameTable.new.Goals as goal
 
