@@ -9,6 +9,7 @@ use Rattle.vk_types.specs.declared.handles.Kind.TheVariants.{Buffer}
 use Rattle.vk_types.specs.declared.batches.Batch.{Batch}
 use Rattle.vk_model.specs.Log.{Command, commands, touches_object, NoneEmpty, IsSound}
 use Rattle.vk_model.specs.Fitting.{HasRange, NodeFits}
+use Rattle.vk_device.specs.Order.{IsOfOneQueue}
 use Rattle.submit_queue.specs.Histories.{last_number}
 use Rattle.back_core.specs.Own.{Own, HostWrote, HostRead, Enqueued, log_of, batch_by, batches_of, batch_touches, last_use, next_number}
 use Rattle.back_core.specs.Link.{Link, IsNew, put, created, wrote, fetched, enqueued}
@@ -25,8 +26,9 @@ empty_sound = record {
 }
 
 -- the first batch of a link of group 3
-pub fence_may : (s : Link) (b : Batch) → IsNew s 3 → b.nodes ≡ [] → b.index ≡ 24 → b.number ≡ 1 → MayEnqueue s b
-fence_may s b fresh none index number = record {
+pub fence_may : (s : Link) (b : Batch) → IsNew s 3 → IsOfOneQueue b → b.nodes ≡ [] → b.index ≡ 24 → b.number ≡ 1 → MayEnqueue s b
+fence_may s b fresh one none index number = record {
+  one_queue = one;
   few = omega (arith, ap length none);
   sound = subst (λ m. IsSound (log_of m ++ commands 0 b.nodes)) (sym fresh.empty) (subst (λ ns. IsSound (commands 0 ns)) (sym none) empty_sound);
   none_empty = subst (All NoneEmpty) (sym none) (All-nil NoneEmpty);

@@ -1,4 +1,5 @@
 // One call of each kind.
+ghost use Rattle.vk_device.specs.Order.{IsOfOneQueue};
 ghost use Rattle.std.specs.Prelude.{◌≡◌, []};
 
 use crate::FakeLink;
@@ -11,6 +12,7 @@ use vk_types::{Batch, Kind, Nodes, QueueSerial, Reason, SerialIndex, SignalNumbe
 
 /// The first batch of the first index of group 3, which has no nodes.
 fn fence(alloc: Global) -> Batch
+    ensures one_queue { IsOfOneQueue result }
     ensures nodes { result.nodes ≡ [] }
     ensures index { result.index ≡ 24 }
     ensures number { result.number ≡ 1 }

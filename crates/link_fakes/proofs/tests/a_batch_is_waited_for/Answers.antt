@@ -4,7 +4,7 @@ use Rattle.link_fakes.proofs.Trials.{fence_may, fence_is}
 use Rattle.link_fakes.proofs.tests.a_batch_is_waited_for.Goals as goal
 
 pub enqueue-requires : goal.enqueue-requires
-enqueue-requires g c = fence_may _ c.fence.result c.new-link.ensures c.fence.ensures.nodes c.fence.ensures.index c.fence.ensures.number
+enqueue-requires g c = fence_may _ c.fence.result c.new-link.ensures c.fence.ensures.one_queue c.fence.ensures.nodes c.fence.ensures.index c.fence.ensures.number
 
 pub wait_for-requires : goal.wait_for-requires
 wait_for-requires g c = (
