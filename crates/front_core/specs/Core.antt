@@ -1,5 +1,5 @@
 -- The front without its history, as a record of plain values.
-use Rattle.std.specs.Prelude.{◌≡◌, ◌≢◌, ℕ, ◌+◌, ◌-◌, ◌≤◌, ◌*◌, ◌==◌, ◌⊎◌, false, if◌then◌else◌, Option, Some, None, List, [], ◌∷◌, ◌++◌, slice_index_or}
+use Rattle.std.specs.Prelude.{◌≡◌, ◌≢◌, ℕ, ◌-◌, ◌≤◌, ◌*◌, ◌⊎◌, false, if◌then◌else◌, Option, Some, None, List, [], ◌∷◌, ◌++◌, slice_index_or}
 use Rattle.std.specs.Option.{option_map}
 use Rattle.cells.specs.Contents.{UNDEFINED, cell_at, in_range}
 use Rattle.vk_types.specs.declared.handles.HandleId.{HandleId}
@@ -8,10 +8,11 @@ use Rattle.vk_types.specs.declared.ops.Node.{Node}
 use Rattle.tables.specs.Table.{Entries}
 use Rattle.queue_serials.specs.Indexes.{IndexTable, last_of}
 use Rattle.buffer_helper.specs.Buffers.{BufferStore}
+use Rattle.vk_model.specs.Log.{commands}
 use Rattle.back_core.specs.Own.{log_of, last_use, IsReadable}
 use Rattle.back_core.specs.Link.{Link, put}
 use Rattle.front_model.specs.Face.{Object, Buffer, Stored, Outline, Face, outline_at, nodes_touch, recorded, view}
-use Rattle.front_model.specs.Stands.{Hands, no_hands, Holds, IsQuiet}
+use Rattle.front_model.specs.Stands.{Hands, no_hands, Holds, Moved, IsQuiet}
 use Rattle.front_model.specs.Steps.{fresh_slot, full_barrier}
 use Rattle.front_model.specs.Wanted.{buffer_kind}
 use Rattle.front_core.specs.Buffers.{objects_of}
@@ -44,6 +45,12 @@ pub record IsFlushed (old new : Face) (index : ℕ) : Type 0 where
   pub pending : new.pending ≡ put old.pending index []
   pub objects : new.objects ≡ old.objects
   pub group : new.group ≡ old.group
+
+-- A context was flushed: what is shown and quiet is as before, and what was pending in it is at the end of the log.
+pub record HasFlushed (old new : Face) (before now : Link) (index : ℕ) : Type 0 where
+  pub moved : Moved new now (view old before) (outline_at old) (IsQuiet old before)
+  pub flushed : IsFlushed old new index
+  pub log : log_of now.mine ≡ log_of before.mine ++ commands 0 (old.pending index)
 
 -- some contexts were flushed, and nothing else has changed
 pub record OnlyFlushed (old new : Face) : Type 0 where

@@ -4,10 +4,9 @@ ghost use Rattle.vk_types.specs.declared.batches.Batch.{Batch};
 ghost use Rattle.queue_serials.specs.Indexes.{with_last, last_of, unused};
 ghost use Rattle.back_core.specs.Link.{Link, IsNew, enqueued};
 ghost use Rattle.back_core.specs.Needs.{IsOfGroup, MayEnqueue};
-ghost use Rattle.front_model.specs.Face.{outline_at, view};
-ghost use Rattle.front_model.specs.Stands.{Holds, Owns, Moved, IsQuiet, no_hands};
+ghost use Rattle.front_model.specs.Stands.{Holds, Owns, no_hands};
 ghost use Rattle.front_model.specs.Steps.{IsNextBatch};
-ghost use Rattle.front_core.specs.Core.{CoreParts, face, IsFlushed};
+ghost use Rattle.front_core.specs.Core.{CoreParts, face, HasFlushed};
 
 use front_model::{link_steps_show, quiet_objects_stay, steps_hold, steps_may};
 
@@ -21,20 +20,18 @@ pub(crate) fn new_comes_to()
 
 /// A flush shows what was shown.
 pub(crate) fn flush_comes_to()
+    ensures number { (c : CoreParts) (s : Link) (index : ℕ) → Holds (face c) no_hands s → IsOfGroup c.indexes.group index → (face c).last index ≡ last_of c.indexes index }
+    ensures below { (c : CoreParts) (s : Link) (index : ℕ) → Holds (face c) no_hands s → IsOfGroup c.indexes.group index → last_of c.indexes index < 18446744073709551615 }
     // nothing was pending
     ensures nothing { (c : CoreParts) (s : Link) (index place : ℕ) → Holds (face c) no_hands s → IsOfGroup c.indexes.group index →
-        place + 8 * c.indexes.group ≡ index → length (slice_index_or c.pending place []) ≡ 0 →
-        Moved (face c) s (view (face c) s) (outline_at (face c)) (IsQuiet (face c) s) }
-    ensures flushed { (c : CoreParts) (s : Link) (index place : ℕ) → IsOfGroup c.indexes.group index → place + 8 * c.indexes.group ≡ index →
-        length (slice_index_or c.pending place []) ≡ 0 → IsFlushed (face c) (face c) index }
+        place + 8 * c.indexes.group ≡ index → length (slice_index_or c.pending place []) ≡ 0 → HasFlushed (face c) (face c) s s index }
     // the next batch of the index
     ensures may { (c : CoreParts) (s : Link) (index : ℕ) (batch : Batch) → Holds (face c) no_hands s → IsOfGroup c.indexes.group index →
         IsNextBatch (face c) index batch → MayEnqueue s batch }
-    ensures below { (c : CoreParts) (s : Link) (index : ℕ) → Holds (face c) no_hands s → IsOfGroup c.indexes.group index → last_of c.indexes index < 18446744073709551615 }
-    ensures batch { (c d : CoreParts) (s : Link) (index place : ℕ) (batch : Batch) → Holds (face c) no_hands s → IsOfGroup c.indexes.group index →
+    ensures batch { (c d : CoreParts) (s t : Link) (index place : ℕ) (batch : Batch) → Holds (face c) no_hands s → IsOfGroup c.indexes.group index →
         place + 8 * c.indexes.group ≡ index → IsNextBatch (face c) index batch → batch.number < 18446744073709551615 →
-        d ≡ record c { indexes = with_last c.indexes index batch.number; pending = slice_set c.pending place [] } →
-        Moved (face d) (enqueued s batch) (view (face c) s) (outline_at (face c)) (IsQuiet (face c) s) × IsFlushed (face c) (face d) index }
+        last_of d.indexes index ≡ batch.number → d ≡ record c { indexes = with_last c.indexes index batch.number; pending = slice_set c.pending place [] } →
+        t ≡ enqueued s batch → HasFlushed (face c) (face d) s t index }
     ensures owns { (c : CoreParts) (s : Link) → Holds (face c) no_hands s → Owns (face c).objects s }
 {
     steps_hold();

@@ -80,6 +80,7 @@ impl Indexes {
         requires below { last_of self.old index + 1 < 2 ^ 64 }
         ensures number { result ≡ last_of self.old index + 1 }
         ensures table { self.new ≡ with_last self.old index result }
+        ensures last { last_of self.new index ≡ result }
     {
         let place = self.place(index);
         let number = self.last[place] + 1;

@@ -1,0 +1,3 @@
+pub mod Faces
+pub mod Flushing
+pub mod Preparing
