@@ -1,3 +1,4 @@
 pub mod Faces
 pub mod Flushing
 pub mod Preparing
+pub mod BufferLaws

@@ -89,6 +89,7 @@ impl Buffers {
     pub(crate) fn take(&mut self, buffer: u32) -> Option<BufferHelper>
         ensures taken { result ≡ entry buffer self.old }
         ensures left { self.new ≡ without buffer self.old }
+        ensures others { (c : ℕ) → entry c self.new ≡ (if c == buffer then None else entry c self.old) }
     {
         self.map.remove(&buffer)
     }

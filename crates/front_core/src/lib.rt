@@ -13,3 +13,4 @@ mod recording;
 mod share;
 mod state_calls;
 mod stores;
+mod stores_come_to;

@@ -9,6 +9,7 @@ ghost use Rattle.front_model.specs.Wanted.{with_bytes, with_copy};
 ghost use Rattle.front_core.specs.Core.{face, HasStore, IsQuietBut, outline_of_size, new_cells};
 
 use crate::core::Core;
+use crate::stores_come_to::end_comes_to;
 use back_core::BackLink;
 use vk_types::{QueueSerial, Reason, SerialIndex, Stop};
 
@@ -146,6 +147,7 @@ impl Core {
             (put_object (outline_at (face self.old)) (Buffer buffer) None) (IsQuietBut (face self.old) (L.state link.old) buffer) }
         ensures faults { L.faults link.old ≤ L.faults link.new }
     {
+        end_comes_to();
         if let Some(store) = self.buffers.take(buffer) {
             link.give(store.into_garbage());
         }

@@ -7,6 +7,7 @@ ghost use Rattle.front_model.specs.Stands.{Holds, Owns, Moved, no_hands};
 ghost use Rattle.front_core.specs.Core.{face, in_hand, HasFresh, IsQuietBut, outline_of_size};
 
 use crate::core::Core;
+use crate::stores_come_to::{begin_comes_to, blank_comes_to, filled_comes_to};
 use back_core::BackLink;
 use buffer_helper::BufferHelper;
 use garbage::Garbage;
@@ -22,6 +23,7 @@ impl Core {
         ensures err { OnErr result (Owns (face self.now).objects (L.state link.new)) }
         ensures cause { HasCause (L.faults link.old) (L.faults link.new) result }
     {
+        blank_comes_to();
         link.create(Kind::Buffer { size })
     }
 
@@ -33,6 +35,7 @@ impl Core {
         ensures err { OnErr result (Owns (face self.now).objects (L.state link.new)) }
         ensures cause { HasCause (L.faults link.old) (L.faults link.new) result }
     {
+        filled_comes_to();
         match self.blank(link, bytes.len() as u64) {
             Ok(handle) => match link.write_host(handle.id(), 0, bytes) {
                 Ok(()) => Ok(handle),
@@ -59,6 +62,7 @@ impl Core {
         ensures err { OnErr result (Owns (face self.now).objects (L.state link.new)) }
         ensures cause { HasCause (L.faults link.old) (L.faults link.new) result }
     {
+        filled_comes_to();
         let mut uses = ResourceUse::new(self.alloc);
         if uses.note(serial).is_err() {
             return Err(Stop::Memory);
@@ -87,6 +91,8 @@ impl Core {
         ensures err { OnErr result (Owns (face self.new).objects (L.state link.new)) }
         ensures cause { HasCause (L.faults link.old) (L.faults link.new) result }
     {
+        begin_comes_to();
+        filled_comes_to();
         match self
             .buffers
             .insert(buffer, BufferHelper::new(self.alloc, fresh, size))

@@ -127,7 +127,7 @@ module _ (f : Face) (hands : Hands) (s : Link) (h : Holds f hands s) (id at : �
       ∙ sym (ap (λ c. c j) (then_pending (kinds_of s) (log_of s.mine) (in_order f)))
 
   -- and the handle has the bytes
-  wrote_cell : at + length bytes ≤ the_end → (i : ℕ) → recorded f (wrote s id at bytes) id i ≡ cond (in_part at (length bytes) i) (slice_index bytes (i - at)) (recorded f s id i)
+  pub wrote_cell : at + length bytes ≤ the_end → (i : ℕ) → recorded f (wrote s id at bytes) id i ≡ cond (in_part at (length bytes) i) (slice_index bytes (i - at)) (recorded f s id i)
   wrote_cell inside i =
       ap (λ c. c id i) recorded_wrote
       ∙ ap (λ c. c i) (nodes_leave (kinds_of s) (in_order f) id pending_leave (apply (kinds_of s) (HostWrite id at bytes) (contents_of s)))

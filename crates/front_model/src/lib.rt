@@ -2,10 +2,12 @@
 //! back: the steps of which its moves are made keep that, and change what its objects hold as they say.
 #![tactic(auto)]
 
+mod fresh_laws;
 mod state_laws;
 mod step_laws;
 mod view_laws;
 
+pub use fresh_laws::fresh_handles_show;
 pub use state_laws::{
     accepted_calls_are_in_range, calls_keep_agreement, calls_keep_stores,
     numbers_not_given_are_free, reads_through_a_map_answer,
