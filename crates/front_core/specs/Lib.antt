@@ -1,3 +1,4 @@
 pub mod Buffers
 pub mod Core
 pub mod Share
+pub mod Recording

@@ -12,5 +12,6 @@ mod pending;
 mod recording;
 mod share;
 mod state_calls;
+mod recording_comes_to;
 mod stores;
 mod stores_come_to;

@@ -52,6 +52,7 @@ impl Pending {
     pub(crate) fn push(&mut self, place: usize, node: Node) -> Result<(), AllocError>
         requires { place < 8 }
         ensures ok { OnOk result (self.new ≡ slice_set self.old place (slice_index_or self.old place [] ++ node ∷ [])) }
+        ensures eight { length self.old ≡ 8 }
     {
         match self.lists[place].push(node) {
             Ok(()) => Ok(()),

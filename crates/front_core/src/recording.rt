@@ -2,6 +2,7 @@
 ghost use Rattle.std.specs.Prelude.{◌≡◌, ℕ, ◌+◌, ◌<◌, ◌≤◌, ◌==◌, ◌⊎◌, if◌then◌else◌, ◌++◌, ◌≢◌, [], ◌∷◌, length, OnOk, OnErr, IfErr, Err, IfSome, IsSome, slice_set, slice_index_or};
 ghost use Rattle.vk_device.specs.Faults.{HasCause};
 ghost use Rattle.vk_types.specs.declared.ops.Op.TheVariants as op;
+ghost use Rattle.vk_types.specs.Touches.{the_end};
 ghost use Rattle.vk_types.specs.declared.stops.Stop.TheVariants.{Memory};
 ghost use Rattle.resource_use.specs.Uses.{number_of};
 ghost use Rattle.back_core.specs.Needs.{IsOfGroup};
@@ -13,6 +14,9 @@ ghost use Rattle.front_core.specs.Core.{face, in_hand, HasStore, IsParted, IsQui
 
 use crate::core::Core;
 use crate::pending::Pending;
+use crate::recording_comes_to::{
+    barrier_comes_to, copy_comes_to, stopped_recording_comes_to, upload_comes_to,
+};
 use back_core::BackLink;
 use garbage::Garbage;
 use vk_types::{Access, Barrier, HandleId, Node, Op, QueueSerial, SerialIndex, Stop};
@@ -43,6 +47,7 @@ pub(crate) fn push_copy(
 ) -> Result<(), Stop>
     requires { place < 8 }
     ensures ok { OnOk result (pending.new ≡ slice_set pending.old place (slice_index_or pending.old place [] ++ fenced (record { op = op.CopyBuffer src src_at dst dst_at size }))) }
+    ensures eight { length pending.old ≡ 8 }
     ensures err { IfErr result (λ stop. stop ≡ Memory) }
 {
     let copy = Node {
@@ -89,6 +94,8 @@ impl Core {
         ensures err { OnErr result (Owns (face self.new).objects (L.state link.new)) }
         ensures cause { HasCause (L.faults link.old) (L.faults link.new) result }
     {
+        upload_comes_to();
+        stopped_recording_comes_to();
         let place = self.place(serial.index);
         let src = staging.handle.id();
         let dst = self.id_of(buffer);
@@ -131,6 +138,8 @@ impl Core {
         ensures err { OnErr result (Owns (face self.new).objects (L.state link.now)) }
         ensures memory { IfErr result (λ stop. stop ≡ Memory) }
     {
+        copy_comes_to();
+        stopped_recording_comes_to();
         let _ = link;
         let place = self.place(serial.index);
         let from = self.id_of(src);
@@ -162,6 +171,8 @@ impl Core {
         ensures err { OnErr result (Owns (face self.new).objects (L.state link.now)) }
         ensures memory { IfErr result (λ stop. stop ≡ Memory) }
     {
+        barrier_comes_to();
+        stopped_recording_comes_to();
         let _ = link;
         let place = self.place(serial.index);
         let id = self.id_of(buffer);
@@ -176,10 +187,14 @@ impl Core {
     /// The object of a buffer's store.
     fn id_of(&self, buffer: u32) -> HandleId
         requires { IsSome ((face self.now).objects (Buffer buffer)) }
-        ensures { IfSome ((face self.now).objects (Buffer buffer)) (λ x. x.handle ≡ result.0) }
+        ensures handle { IfSome ((face self.now).objects (Buffer buffer)) (λ x. x.handle ≡ result.0) }
+        ensures size { (size : ℕ) → HasStore (face self.now) buffer size → size ≤ the_end }
     {
         match self.buffers.get(buffer) {
-            Some(store) => store.id(),
+            Some(store) => {
+                let _ = store.size();
+                store.id()
+            }
             None => unreachable!(),
         }
     }

@@ -72,32 +72,30 @@ fenced_shows kinds n c = nodes-append kinds (map (λ t. full_barrier t.id) (touc
 pub shown_fenced : (f : Face) (hands : Hands) (s : Link) (index : ℕ) (n : Node) → Holds f hands s → MayRecord f hands s index (fenced n) → (o : Object) → view (with_nodes f index (fenced n)) s o ≡ content_in (kinds_of s) (apply (kinds_of s) (Command 0 n) (recorded f s)) (f.objects o)
 shown_fenced f hands s index n h may o = shown_nodes f hands s index (fenced n) h may o ∙ ap (λ c. content_in (kinds_of s) c (f.objects o)) (fenced_shows (kinds_of s) n (recorded f s))
 
-pub view_copied : (f : Face) (hands : Hands) (s : Link) (index : ℕ) (o q : Object) (b c : Stored) (src dst : HandleId) (src_at dst_at size : ℕ) → Holds f hands s →
+-- a copy from a handle that has these cells, to an object on which nothing waits
+view_copied_from : (from : ℕ → ℕ) (f : Face) (hands : Hands) (s : Link) (index : ℕ) (q : Object) (c : Stored) (src dst : HandleId) (src_at dst_at size : ℕ) → from ≡ recorded f s src.0 → Holds f hands s →
     MayRecord f hands s index (fenced (copy_node src src_at dst dst_at size)) →
-    f.objects o ≡ Some b → b.waiting ≡ [] → b.handle ≡ src.0 → f.objects q ≡ Some c → c.waiting ≡ [] → c.handle ≡ dst.0 →
+    f.objects q ≡ Some c → c.waiting ≡ [] → c.handle ≡ dst.0 →
     src_at + size ≤ the_end → dst_at + size ≤ the_end →
     view (with_nodes f index (fenced (copy_node src src_at dst dst_at size))) s
-    ≡ put_object (view f s) q (λ i. cond (nat_le dst_at i && nat_lt i (dst_at + size)) (view f s o (src_at + (i - dst_at))) (view f s q i))
-view_copied f hands s index o q b c src dst src_at dst_at size h may at_o clear_o is_src at_q clear_q is_dst src_inside dst_inside =
+    ≡ put_object (view f s) q (λ i. cond (nat_le dst_at i && nat_lt i (dst_at + size)) (from (src_at + (i - dst_at))) (view f s q i))
+view_copied_from from f hands s index q c src dst src_at dst_at size source h may at_q clear_q is_dst src_inside dst_inside =
     fun_ext (λ p. shown_fenced f hands s index (copy_node src src_at dst dst_at size) h may p ∙ go p (cases_object p q))
   where
     copied : Contents
     copied = apply (kinds_of s) (Command 0 (copy_node src src_at dst dst_at size)) (recorded f s)
 
     new : ℕ → ℕ
-    new i = cond (nat_le dst_at i && nat_lt i (dst_at + size)) (view f s o (src_at + (i - dst_at))) (view f s q i)
-
-    source : view f s o ≡ recorded f s src.0
-    source = ap (content_in (kinds_of s) (recorded f s)) at_o ∙ content_clear (kinds_of s) (recorded f s) b clear_o ∙ ap (recorded f s) is_src
+    new i = cond (nat_le dst_at i && nat_lt i (dst_at + size)) (from (src_at + (i - dst_at))) (view f s q i)
 
     target : (d : Contents) → content_in (kinds_of s) d (f.objects q) ≡ d dst.0
     target d = ap (content_in (kinds_of s) d) at_q ∙ content_clear (kinds_of s) d c clear_q ∙ ap d is_dst
 
-    cell : (i : ℕ) → copied dst.0 i ≡ cond (in_part dst_at size i) (view f s o (src_at + (i - dst_at))) (view f s q i)
+    cell : (i : ℕ) → copied dst.0 i ≡ cond (in_part dst_at size i) (from (src_at + (i - dst_at))) (view f s q i)
     cell i =
         copy_cell (kinds_of s) src src_at dst dst_at size (recorded f s) src_inside dst_inside i
         ∙ ap (λ (v : ℕ → ℕ). cond (in_part dst_at size i) (v (src_at + (i - dst_at))) (recorded f s dst.0 i)) (sym source)
-        ∙ ap (λ (v : ℕ → ℕ). cond (in_part dst_at size i) (view f s o (src_at + (i - dst_at))) (v i)) (sym (target (recorded f s)))
+        ∙ ap (λ (v : ℕ → ℕ). cond (in_part dst_at size i) (from (src_at + (i - dst_at))) (v i)) (sym (target (recorded f s)))
 
     go : (p : Object) → (p ≡ q) ⊎ (p ≢ q) →
         content_in (kinds_of s) copied (f.objects p)
@@ -113,6 +111,24 @@ view_copied f hands s index o q b c src dst src_at dst_at size h may at_o clear_
         (store_apart h.owner p q dst.0 (ap h.owner (sym is_dst) ∙ (h.objects q c at_q).owned) other)
         (λ j ne. fun_ext (λ i. copy_leaves (kinds_of s) src src_at dst dst_at size (recorded f s) j i (inl (λ e. ne (sym e)))))
         ∙ sym (put_object-other (view f s) q new p other)
+
+pub view_copied : (f : Face) (hands : Hands) (s : Link) (index : ℕ) (o q : Object) (b c : Stored) (src dst : HandleId) (src_at dst_at size : ℕ) → Holds f hands s →
+    MayRecord f hands s index (fenced (copy_node src src_at dst dst_at size)) →
+    f.objects o ≡ Some b → b.waiting ≡ [] → b.handle ≡ src.0 → f.objects q ≡ Some c → c.waiting ≡ [] → c.handle ≡ dst.0 →
+    src_at + size ≤ the_end → dst_at + size ≤ the_end →
+    view (with_nodes f index (fenced (copy_node src src_at dst dst_at size))) s
+    ≡ put_object (view f s) q (λ i. cond (nat_le dst_at i && nat_lt i (dst_at + size)) (view f s o (src_at + (i - dst_at))) (view f s q i))
+view_copied f hands s index o q b c src dst src_at dst_at size h may at_o clear_o is_src =
+    view_copied_from (view f s o) f hands s index q c src dst src_at dst_at size
+    (ap (content_in (kinds_of s) (recorded f s)) at_o ∙ content_clear (kinds_of s) (recorded f s) b clear_o ∙ ap (recorded f s) is_src) h may
+
+pub view_uploaded : (f : Face) (hands : Hands) (s : Link) (index : ℕ) (q : Object) (c : Stored) (src dst : HandleId) (src_at dst_at size : ℕ) → Holds f hands s →
+    MayRecord f hands s index (fenced (copy_node src src_at dst dst_at size)) →
+    f.objects q ≡ Some c → c.waiting ≡ [] → c.handle ≡ dst.0 → src_at + size ≤ the_end → dst_at + size ≤ the_end →
+    view (with_nodes f index (fenced (copy_node src src_at dst dst_at size))) s
+    ≡ put_object (view f s) q (λ i. cond (nat_le dst_at i && nat_lt i (dst_at + size)) (recorded f s src.0 (src_at + (i - dst_at))) (view f s q i))
+view_uploaded f hands s index q c src dst src_at dst_at size h may =
+    view_copied_from (recorded f s src.0) f hands s index q c src dst src_at dst_at size refl h may
 
 -- What waits
 

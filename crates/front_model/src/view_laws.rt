@@ -51,6 +51,12 @@ pub fn front_steps_show()
         src_at + size ≤ the_end → dst_at + size ≤ the_end →
         view (with_nodes f index (fenced (record { op = op.CopyBuffer src src_at dst dst_at size }))) s
         ≡ put_object (view f s) q (λ i. if nat_le dst_at i && nat_lt i (dst_at + size) then view f s o (src_at + (i - dst_at)) else view f s q i) }
+    // a copy from any handle to an object on which nothing waits
+    ensures uploads { (f : Face) (hands : Hands) (s : Link) (index : ℕ) (q : Object) (c : Stored) (src dst : HandleId) (src_at dst_at size : ℕ) → Holds f hands s →
+        MayRecord f hands s index (fenced (record { op = op.CopyBuffer src src_at dst dst_at size })) → f.objects q ≡ Some c → c.waiting ≡ [] → c.handle ≡ dst.0 →
+        src_at + size ≤ the_end → dst_at + size ≤ the_end →
+        view (with_nodes f index (fenced (record { op = op.CopyBuffer src src_at dst dst_at size }))) s
+        ≡ put_object (view f s) q (λ i. if nat_le dst_at i && nat_lt i (dst_at + size) then recorded f s src.0 (src_at + (i - dst_at)) else view f s q i) }
     // the first of what waits on an object, taken and recorded behind barriers
     ensures drains { (f : Face) (hands also : Hands) (s : Link) (index : ℕ) (o : Object) (b : Stored) (w : Waiting) → Holds f hands s →
         f.objects o ≡ Some b → slice_get b.waiting 0 ≡ Some w → barrier_of w.node ≡ None →
