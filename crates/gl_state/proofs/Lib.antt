@@ -16,3 +16,5 @@ pub mod NameChanges
 pub mod Deleted
 pub mod Ordered
 pub mod Images
+pub mod NamesInUse
+pub mod Generating

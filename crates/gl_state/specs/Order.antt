@@ -6,7 +6,9 @@ use Rattle.gl_model.specs.declared.state.GroupState.{GroupState}
 use Rattle.gl_model.specs.declared.state.Names.{Names}
 use Rattle.gl_model.specs.Bindings.{same_option}
 use Rattle.gl_model.specs.GroupEffect.{swept, names_object}
+use Rattle.unused_names.specs.Unused.{Fits}
 use Rattle.gl_state.specs.declared.nameless.Nameless.{Nameless}
+use Rattle.gl_state.specs.declared.nameless.Unused.{Unused}
 
 abbrev pub AreAbove : {V : Type 0} → ℕ → Entries V → Type 0
 AreAbove key [] = Unit {0}
@@ -51,3 +53,14 @@ pub record AreTied (group : GroupState) (nameless : Nameless) : Type 0 where
 pub record IsWhole (group : GroupState) (nameless : Nameless) : Type 0 where
   pub kept : IsKept group
   pub tied : AreTied group nameless
+
+-- for the names of each kind of object it is known which are not in use
+pub record FitNames (buffers textures renderbuffers : Names) (unused : Unused) : Type 0 where
+  pub buffers_fit : Fits unused.buffers (λ n. has n buffers.objects)
+  pub textures_fit : Fits unused.textures (λ n. has n textures.objects)
+  pub renderbuffers_fit : Fits unused.renderbuffers (λ n. has n renderbuffers.objects)
+
+-- What holds of each state and of what stands beside it.
+pub record IsSound (group : GroupState) (nameless : Nameless) (unused : Unused) : Type 0 where
+  pub whole : IsWhole group nameless
+  pub fits : FitNames group.buffer_names group.texture_names group.renderbuffer_names unused

@@ -87,6 +87,7 @@ pub fn bind_buffer(alloc: Global, state: &mut SharedState, thread: u32, target: 
     };
     let fresh = BufferFacts { size: 0, map: None };
     make_object(&mut state.group.buffer_names, &mut state.group.buffers, name, fresh)?;
+    state.unused.buffers.note_used(name);
     let bound = object_of(&state.group.buffer_names, name);
     bind_in(&mut state.group.contexts, number, target, bound);
     sweep(&mut state.group, &mut state.nameless, &mut ended);
@@ -107,6 +108,7 @@ pub fn delete_buffer(alloc: Global, state: &mut SharedState, thread: u32, name: 
     let object = object_of(&state.group.buffer_names, name);
     list_nameless(&state.group.buffers, &mut state.nameless.buffers, object)?;
     state.group.buffer_names.objects.remove(name);
+    state.unused.buffers.note_unused(name);
     unbind_in(&mut state.group.contexts, number, object);
     set_map(&mut state.group.buffers, object, None);
     sweep(&mut state.group, &mut state.nameless, &mut ended);

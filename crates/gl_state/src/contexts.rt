@@ -42,6 +42,16 @@ pub fn current_number(contexts: &Table<Context>, thread: u32) -> Option<u32>
     }
 }
 
+/// The number of the context that is current on a thread, and whether it is marked.
+pub fn current_mark(contexts: &Table<Context>, thread: u32) -> Option<(u32, bool)>
+    ensures { result ≡ option_map (λ e. (e.0, e.1.marked)) (find (λ e. same_option e.1.thread (Some thread)) contexts.now) }
+{
+    match current_entry(contexts, thread) {
+        Some((number, context)) => Some((*number, context.marked)),
+        None => None,
+    }
+}
+
 /// The flag of a context after an error: the first error stays.
 fn noted(flag: GlError, error: GlError) -> GlError
     ensures { (context : Held) → with_gl_error error (record context { error = flag }) ≡ record context { error = result } }

@@ -1,6 +1,7 @@
 //! The effect of a call on the state of a share group, all but what its objects hold.
 #![tactic(auto)]
 
+mod applied;
 mod apply;
 mod bindings;
 mod buffers;
@@ -9,6 +10,7 @@ mod egl;
 mod nameless;
 mod framebuffer_calls;
 mod framebuffers;
+mod generation;
 mod names;
 mod parameters;
 mod references;
@@ -30,7 +32,10 @@ pub use egl::{create_context, destroy_context, make_current};
 pub use framebuffer_calls::{
     attach, bind_framebuffer, delete_framebuffer, draw_buffers, read_buffer,
 };
-pub use nameless::{Ended, Nameless};
+pub use generation::{
+    generate_buffers, generate_framebuffers, generate_renderbuffers, generate_textures,
+};
+pub use nameless::Ended;
 pub use parameters::{get_error, pixel_store, scissor_box, scissor_test};
 pub use renderbuffers::{bind_renderbuffer, delete_renderbuffer};
 pub use refusal::refuse;

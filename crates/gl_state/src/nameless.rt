@@ -1,9 +1,12 @@
 // Objects without a name, and those that stop existing.
 ghost use Rattle.std.specs.Prelude.{◌≡◌, [], ◌+◌, ◌≤◌, IfOk, vec_capacity, length};
+ghost use Rattle.gl_model.specs.declared.state.Names.{Names};
 ghost use Rattle.gl_state.specs.Ended.{HasRoom};
+ghost use Rattle.gl_state.specs.Order.{FitNames};
 
 use std::alloc::{AllocError, Global};
 use tables::Table;
+use unused_names::UnusedNames;
 
 /// The objects of each kind that exist and have no name. A binding or an attachment refers to each of them.
 #[derive(Drop)]
@@ -11,6 +14,27 @@ pub struct Nameless {
     pub buffers: Table<()>,
     pub textures: Table<()>,
     pub renderbuffers: Table<()>,
+}
+
+/// Which names of each kind of object are not in use.
+#[derive(Drop)]
+pub struct Unused {
+    pub buffers: UnusedNames,
+    pub textures: UnusedNames,
+    pub renderbuffers: UnusedNames,
+}
+
+impl Unused {
+    /// Nothing is known of the names yet. This takes no memory.
+    pub fn new(alloc: Global) -> Unused
+        ensures { (buffers textures renderbuffers : Names) → FitNames buffers textures renderbuffers result }
+    {
+        Unused {
+            buffers: UnusedNames::new(alloc),
+            textures: UnusedNames::new(alloc),
+            renderbuffers: UnusedNames::new(alloc),
+        }
+    }
 }
 
 /// Objects that stopped existing, each by its number among those of its kind that were ever made, in rising order.

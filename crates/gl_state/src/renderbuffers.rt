@@ -60,6 +60,7 @@ pub fn bind_renderbuffer(alloc: Global, state: &mut SharedState, thread: u32, na
         return Ok(ended);
     };
     make_object(&mut state.group.renderbuffer_names, &mut state.group.renderbuffers, name, None)?;
+    state.unused.renderbuffers.note_used(name);
     let bound = object_of(&state.group.renderbuffer_names, name);
     bind_in(&mut state.group.contexts, number, bound);
     sweep(&mut state.group, &mut state.nameless, &mut ended);
@@ -80,6 +81,7 @@ pub fn delete_renderbuffer(alloc: Global, state: &mut SharedState, thread: u32, 
     let object = object_of(&state.group.renderbuffer_names, name);
     list_nameless(&state.group.renderbuffers, &mut state.nameless.renderbuffers, object)?;
     state.group.renderbuffer_names.objects.remove(name);
+    state.unused.renderbuffers.note_unused(name);
     unbind_in(&mut state.group.contexts, number, object);
     sweep(&mut state.group, &mut state.nameless, &mut ended);
     Ok(ended)

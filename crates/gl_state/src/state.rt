@@ -1,7 +1,7 @@
 ghost use Rattle.std.specs.Prelude.{◌≡◌, IfOk};
 ghost use Rattle.gl_model.specs.GroupState.{opening_group};
 
-use crate::nameless::Nameless;
+use crate::nameless::{Nameless, Unused};
 use gl_model::GroupState;
 use std::alloc::{AllocError, Global};
 use std::marker::Model;
@@ -11,17 +11,18 @@ use std::marker::Model;
 pub struct SharedState {
     pub(crate) group: GroupState,
     pub(crate) nameless: Nameless,
+    pub(crate) unused: Unused,
 }
 
 impl Model for SharedState {
     ghost use Rattle.gl_model.specs.declared.state.GroupState.{GroupState as Group};
-    ghost use Rattle.gl_state.specs.Order.{IsWhole};
+    ghost use Rattle.gl_state.specs.Order.{IsSound};
 
     ghost Value = { Group };
 
     ghost view = { λ s. s.group };
 
-    ghost invariant = { λ s. IsWhole s.group s.nameless };
+    ghost invariant = { λ s. IsSound s.group s.nameless s.unused };
 }
 
 impl SharedState {
@@ -33,6 +34,7 @@ impl SharedState {
         Ok(SharedState {
             group,
             nameless: Nameless::new(alloc),
+            unused: Unused::new(alloc),
         })
     }
 

@@ -60,6 +60,7 @@ pub fn bind_texture(alloc: Global, state: &mut SharedState, thread: u32, name: u
         return Ok(ended);
     };
     make_object(&mut state.group.texture_names, &mut state.group.textures, name, None)?;
+    state.unused.textures.note_used(name);
     let bound = object_of(&state.group.texture_names, name);
     bind_in(&mut state.group.contexts, number, bound);
     sweep(&mut state.group, &mut state.nameless, &mut ended);
@@ -80,6 +81,7 @@ pub fn delete_texture(alloc: Global, state: &mut SharedState, thread: u32, name:
     let object = object_of(&state.group.texture_names, name);
     list_nameless(&state.group.textures, &mut state.nameless.textures, object)?;
     state.group.texture_names.objects.remove(name);
+    state.unused.textures.note_unused(name);
     unbind_in(&mut state.group.contexts, number, object);
     sweep(&mut state.group, &mut state.nameless, &mut ended);
     Ok(ended)

@@ -8,6 +8,8 @@ use Rattle.gl_model.specs.declared.state.GroupState.{GroupState}
 use Rattle.gl_model.specs.GroupEffect.{names_object, binds_buffer, with_buffer_binding}
 use Rattle.gl_state.specs.Changes.{changed_at}
 use Rattle.gl_state.proofs.Current.{current_at, no_context_effect, IsRising-changed_at}
+use Rattle.tables.specs.Table.{has}
+use Rattle.gl_state.proofs.NamesInUse.{Fits-bound, FitNames-swept}
 use Rattle.gl_state.proofs.NameChanges.{IsTied-bound, gone-bound, AreGone-none}
 use Rattle.gl_state.proofs.SweptStates.{IsWhole-after_sweep}
 use Rattle.gl_state.proofs.bindings.bind_buffer.Goals as goal
@@ -18,32 +20,39 @@ fresh = record { size = 0; map = None }
 pub returns-in_default-clause-ok : goal.returns-in_default-clause-ok
 returns-in_default-clause-ok c =
     rw (← c.state.view_is)
-    (no_context_effect c.state.inside.group c.args.thread (call.Bind (targets.Buffer c.args.target) c.args.name) c.state.invariant.kept (sym c.current_number.ensures ∙ c.in_default.is) refl)
+    (no_context_effect c.state.inside.group c.args.thread (call.Bind (targets.Buffer c.args.target) c.args.name) c.state.invariant.whole.kept (sym c.current_number.ensures ∙ c.in_default.is) refl)
 
 pub returns-in_default-clause-ended : goal.returns-in_default-clause-ended
 returns-in_default-clause-ended c = AreGone-none c.args.state.now c.in_ok-ended.ended c.state.inside.nameless 0 c.in_ok-ended.ensures
 
 pub sweep-requires-clause-tied : goal.sweep-requires-clause-tied
 sweep-requires-clause-tied c = record {
-  buffers = rw (c.in_ok-make_object.ensures.names, c.in_ok-make_object.ensures.objects) (IsTied-bound c.state.inside.group.buffer_names c.state.inside.group.buffers c.state.inside.nameless.buffers c.state.invariant.tied.buffers c.args.name fresh);
-  textures = c.state.invariant.tied.textures;
-  renderbuffers = c.state.invariant.tied.renderbuffers;
+  buffers = rw (c.in_ok-make_object.ensures.names, c.in_ok-make_object.ensures.objects) (IsTied-bound c.state.inside.group.buffer_names c.state.inside.group.buffers c.state.inside.nameless.buffers c.state.invariant.whole.tied.buffers c.args.name fresh);
+  textures = c.state.invariant.whole.tied.textures;
+  renderbuffers = c.state.invariant.whole.tied.renderbuffers;
 }
 
 pub invariant_of-state-2 : goal.invariant_of-state-2
-invariant_of-state-2 c =
+invariant_of-state-2 c = record {
+  whole =
     IsWhole-after_sweep _ _ c.state.inside.nameless _ c.sweep.ensures.swept
-    (rw c.bind_in.ensures (IsRising-changed_at c.in-Some.number (λ (x : Context). with_buffer_binding x c.args.target c.object_of-bound.result) c.state.inside.group.contexts c.state.invariant.kept.contexts))
+    (rw c.bind_in.ensures (IsRising-changed_at c.in-Some.number (λ (x : Context). with_buffer_binding x c.args.target c.object_of-bound.result) c.state.inside.group.contexts c.state.invariant.whole.kept.contexts))
     (record {
-      buffers = rw (c.in_ok-make_object.ensures.names, c.in_ok-make_object.ensures.objects) (IsTied-bound c.state.inside.group.buffer_names c.state.inside.group.buffers c.state.inside.nameless.buffers c.state.invariant.tied.buffers c.args.name fresh);
-      textures = c.state.invariant.tied.textures;
-      renderbuffers = c.state.invariant.tied.renderbuffers;
+      buffers = rw (c.in_ok-make_object.ensures.names, c.in_ok-make_object.ensures.objects) (IsTied-bound c.state.inside.group.buffer_names c.state.inside.group.buffers c.state.inside.nameless.buffers c.state.invariant.whole.tied.buffers c.args.name fresh);
+      textures = c.state.invariant.whole.tied.textures;
+      renderbuffers = c.state.invariant.whole.tied.renderbuffers;
     })
-    c.sweep.ensures.tied
+    c.sweep.ensures.tied;
+  fits = FitNames-swept _ _ _ c.sweep.ensures.swept (record {
+      buffers_fit = rw c.in_ok-make_object.ensures.names (Fits-bound c.note_used.new.self c.state.inside.group.buffer_names c.args.name (c.note_used.ensures (λ (n : ℕ). has n c.state.inside.group.buffer_names.objects) c.state.invariant.fits.buffers_fit));
+      textures_fit = c.state.invariant.fits.textures_fit;
+      renderbuffers_fit = c.state.invariant.fits.renderbuffers_fit;
+    });
+}
 
 pub returns-clause-ok : goal.returns-clause-ok
 returns-clause-ok c =
-    let cur = current_at c.state.inside.group c.args.thread c.in-Some.number c.state.invariant.kept (sym c.current_number.ensures ∙ c.in-Some.is) in
+    let cur = current_at c.state.inside.group c.args.thread c.in-Some.number c.state.invariant.whole.kept (sym c.current_number.ensures ∙ c.in-Some.is) in
     let contexts_is : c.bind_in.new.contexts ≡ with_entry c.in-Some.number (with_buffer_binding cur.0 c.args.target c.object_of-bound.result) c.state.inside.group.contexts =
         c.bind_in.ensures ∙ cur.1.changed (λ (x : Context). with_buffer_binding x c.args.target c.object_of-bound.result) in
     rw (← c.state.view_is)
@@ -60,7 +69,7 @@ returns-clause-ended c =
       buffers =
           c.sweep.ensures.ended.buffers
           ∙ rw objects_is
-          (gone-bound c.state.inside.group.buffer_names c.state.inside.group.buffers c.state.inside.nameless.buffers c.state.invariant.tied.buffers c.args.name fresh
+          (gone-bound c.state.inside.group.buffer_names c.state.inside.group.buffers c.state.inside.nameless.buffers c.state.invariant.whole.tied.buffers c.args.name fresh
           (λ (b : ℕ). any_value (binds_buffer b) c.bind_in.new.contexts) c.sweep.new.group.buffers
           (ap (λ (g : GroupState). g.buffers) c.sweep.ensures.swept ∙ (λ i. only (λ b. names_object (names_is i) b || any_value (binds_buffer b) c.bind_in.new.contexts) (objects_is i))));
       textures = c.sweep.ensures.ended.textures;

@@ -8,11 +8,14 @@ use Rattle.gl_state.proofs.BufferChanges.{changed_buffer-effect}
 use Rattle.gl_state.proofs.buffers.buffer_data.Goals as goal
 
 pub invariant_of-state : goal.invariant_of-state
-invariant_of-state c =
+invariant_of-state c = record {
+  whole =
     rw c.set_store.ensures
-    (IsWhole-changed_buffer c.state.inside.group (λ (f : BufferFacts). record { size = c.magnitude-size.result; map = None }) c.state.inside.nameless c.state.invariant c.bound_number-number.result)
+    (IsWhole-changed_buffer c.state.inside.group (λ (f : BufferFacts). record { size = c.magnitude-size.result; map = None }) c.state.inside.nameless c.state.invariant.whole c.bound_number-number.result);
+  fits = c.state.invariant.fits;
+}
 
 pub returns : goal.returns
 returns c = λ usage payload.
     rw (c.set_store.ensures, c.bound_number-number.ensures, ← c.state.view_is)
-    (changed_buffer-effect c.state.inside.group (λ (f : BufferFacts). record { size = c.magnitude-size.result; map = None }) c.state.invariant.kept c.args.thread c.args.target (call.BufferData c.args.target c.args.size usage payload) refl (λ n c'. rw (c.magnitude-size.ensures, to_z-of_z {w = w64} {z = c.args.size} c.ranges.size) refl))
+    (changed_buffer-effect c.state.inside.group (λ (f : BufferFacts). record { size = c.magnitude-size.result; map = None }) c.state.invariant.whole.kept c.args.thread c.args.target (call.BufferData c.args.target c.args.size usage payload) refl (λ n c'. rw (c.magnitude-size.ensures, to_z-of_z {w = w64} {z = c.args.size} c.ranges.size) refl))

@@ -8,11 +8,14 @@ use Rattle.gl_state.proofs.BufferChanges.{changed_buffer-effect}
 use Rattle.gl_state.proofs.buffers.map_buffer_range.Goals as goal
 
 pub invariant_of-state : goal.invariant_of-state
-invariant_of-state c =
+invariant_of-state c = record {
+  whole =
     rw c.set_map.ensures
-    (IsWhole-changed_buffer c.state.inside.group (λ (f : BufferFacts). record f { map = Some (record { at = c.magnitude-at.result; len = c.magnitude-len.result; access = c.args.access }) }) c.state.inside.nameless c.state.invariant c.bound_number-number.result)
+    (IsWhole-changed_buffer c.state.inside.group (λ (f : BufferFacts). record f { map = Some (record { at = c.magnitude-at.result; len = c.magnitude-len.result; access = c.args.access }) }) c.state.inside.nameless c.state.invariant.whole c.bound_number-number.result);
+  fits = c.state.invariant.fits;
+}
 
 pub returns : goal.returns
 returns c =
     rw (c.set_map.ensures, c.bound_number-number.ensures, ← c.state.view_is)
-    (changed_buffer-effect c.state.inside.group (λ (f : BufferFacts). record f { map = Some (record { at = c.magnitude-at.result; len = c.magnitude-len.result; access = c.args.access }) }) c.state.invariant.kept c.args.thread c.args.target (call.MapBufferRange c.args.target c.args.offset c.args.length c.args.access) refl (λ n c'. rw (c.magnitude-at.ensures, c.magnitude-len.ensures, to_z-of_z {w = w64} {z = c.args.offset} c.ranges.offset, to_z-of_z {w = w64} {z = c.args.length} c.ranges.length) refl))
+    (changed_buffer-effect c.state.inside.group (λ (f : BufferFacts). record f { map = Some (record { at = c.magnitude-at.result; len = c.magnitude-len.result; access = c.args.access }) }) c.state.invariant.whole.kept c.args.thread c.args.target (call.MapBufferRange c.args.target c.args.offset c.args.length c.args.access) refl (λ n c'. rw (c.magnitude-at.ensures, c.magnitude-len.ensures, to_z-of_z {w = w64} {z = c.args.offset} c.ranges.offset, to_z-of_z {w = w64} {z = c.args.length} c.ranges.length) refl))

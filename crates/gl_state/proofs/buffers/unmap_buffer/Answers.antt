@@ -6,11 +6,14 @@ use Rattle.gl_state.proofs.BufferChanges.{changed_buffer-effect}
 use Rattle.gl_state.proofs.buffers.unmap_buffer.Goals as goal
 
 pub invariant_of-state : goal.invariant_of-state
-invariant_of-state c =
+invariant_of-state c = record {
+  whole =
     rw c.set_map.ensures
-    (IsWhole-changed_buffer c.state.inside.group (λ (f : BufferFacts). record f { map = None }) c.state.inside.nameless c.state.invariant c.bound_number-number.result)
+    (IsWhole-changed_buffer c.state.inside.group (λ (f : BufferFacts). record f { map = None }) c.state.inside.nameless c.state.invariant.whole c.bound_number-number.result);
+  fits = c.state.invariant.fits;
+}
 
 pub returns : goal.returns
 returns c =
     rw (c.set_map.ensures, c.bound_number-number.ensures, ← c.state.view_is)
-    (changed_buffer-effect c.state.inside.group (λ (f : BufferFacts). record f { map = None }) c.state.invariant.kept c.args.thread c.args.target (call.UnmapBuffer c.args.target) refl (λ n c'. refl))
+    (changed_buffer-effect c.state.inside.group (λ (f : BufferFacts). record f { map = None }) c.state.invariant.whole.kept c.args.thread c.args.target (call.UnmapBuffer c.args.target) refl (λ n c'. refl))

@@ -1,12 +1,16 @@
 use Rattle.std.proofs.Common.{refl, ◌∙◌}
+use Rattle.gl_state.proofs.NamesInUse.{FitNames-swept}
 use Rattle.gl_state.proofs.SweptStates.{IsWhole-swept, IsRising-taken}
 use Rattle.gl_state.proofs.egl.make_current.Goals as goal
 
 pub invariant_of-state : goal.invariant_of-state
-invariant_of-state c =
+invariant_of-state c = record {
+  whole =
     IsWhole-swept _ _ _ c.sweep.ensures.swept
-    (rw (c.take.ensures, c.let_go_of.ensures) (IsRising-taken c.args.thread c.from.result c.state.inside.group.contexts c.state.invariant.kept.contexts))
-    c.state.invariant.kept.buffers c.sweep.ensures.tied
+    (rw (c.take.ensures, c.let_go_of.ensures) (IsRising-taken c.args.thread c.from.result c.state.inside.group.contexts c.state.invariant.whole.kept.contexts))
+    c.state.invariant.whole.kept.buffers c.sweep.ensures.tied;
+  fits = FitNames-swept _ _ _ c.sweep.ensures.swept c.state.invariant.fits;
+}
 
 pub returns-clause-ok : goal.returns-clause-ok
 returns-clause-ok c =

@@ -9,26 +9,30 @@ use Rattle.gl_model.specs.GroupEffect.{with_point, with_framebuffer, with_frameb
 use Rattle.gl_state.specs.Changes.{with_draws, with_read}
 use Rattle.gl_state.proofs.Current.{current_at, no_context_effect, IsRising-changed_at}
 use Rattle.gl_state.proofs.NameChanges.{AreGone-none}
+use Rattle.gl_state.proofs.NamesInUse.{FitNames-swept}
 use Rattle.gl_state.proofs.SweptStates.{IsWhole-swept}
 use Rattle.gl_state.proofs.framebuffer_calls.draw_buffers.Goals as goal
 
 pub returns-in_default-clause-ok : goal.returns-in_default-clause-ok
 returns-in_default-clause-ok c =
     rw (← c.state.view_is)
-    (no_context_effect c.state.inside.group c.args.thread (call.DrawBuffers c.args.buffers.now) c.state.invariant.kept (sym c.current_number.ensures ∙ c.in_default.is) refl)
+    (no_context_effect c.state.inside.group c.args.thread (call.DrawBuffers c.args.buffers.now) c.state.invariant.whole.kept (sym c.current_number.ensures ∙ c.in_default.is) refl)
 
 pub returns-in_default-clause-ended : goal.returns-in_default-clause-ended
 returns-in_default-clause-ended c = AreGone-none c.args.state.now c.in_ok-ended.ended c.state.inside.nameless 0 c.in_ok-ended.ensures
 
 pub invariant_of-state : goal.invariant_of-state
-invariant_of-state c =
+invariant_of-state c = record {
+  whole =
     IsWhole-swept _ _ _ c.sweep.ensures.swept
-    (rw c.draw_at.ensures (IsRising-changed_at c.in-Some.number (λ (x : Context). change_framebuffer x x.draw (with_draws c.as_slice.result.now)) c.state.inside.group.contexts c.state.invariant.kept.contexts))
-    c.state.invariant.kept.buffers c.sweep.ensures.tied
+    (rw c.draw_at.ensures (IsRising-changed_at c.in-Some.number (λ (x : Context). change_framebuffer x x.draw (with_draws c.as_slice.result.now)) c.state.inside.group.contexts c.state.invariant.whole.kept.contexts))
+    c.state.invariant.whole.kept.buffers c.sweep.ensures.tied;
+  fits = FitNames-swept _ _ _ c.sweep.ensures.swept c.state.invariant.fits;
+}
 
 pub returns-clause-ok : goal.returns-clause-ok
 returns-clause-ok c =
-    let cur = current_at c.state.inside.group c.args.thread c.in-Some.number c.state.invariant.kept (sym c.current_number.ensures ∙ c.in-Some.is) in
+    let cur = current_at c.state.inside.group c.args.thread c.in-Some.number c.state.invariant.whole.kept (sym c.current_number.ensures ∙ c.in-Some.is) in
     let contexts_is : c.draw_at.new.contexts ≡ with_entry c.in-Some.number (change_framebuffer cur.0 cur.0.draw (with_draws c.as_slice.result.now)) c.state.inside.group.contexts =
         c.draw_at.ensures ∙ cur.1.changed (λ (x : Context). change_framebuffer x x.draw (with_draws c.as_slice.result.now)) in
     rw (← c.state.view_is)

@@ -9,6 +9,8 @@ use Rattle.gl_model.specs.declared.state.GroupState.{GroupState}
 use Rattle.gl_model.specs.GroupEffect.{swept}
 use Rattle.gl_state.specs.Changes.{changed_at, without_renderbuffer}
 use Rattle.gl_state.proofs.Current.{current_at, no_context_effect, IsRising-changed_if}
+use Rattle.tables.specs.Table.{has}
+use Rattle.gl_state.proofs.NamesInUse.{Fits-deleted, FitNames-swept}
 use Rattle.gl_state.proofs.NameChanges.{IsTied-lost, AreGone-none, length-listed}
 use Rattle.gl_state.proofs.SweptStates.{IsWhole-after_sweep}
 use Rattle.gl_state.proofs.Deleted.{deleted_renderbuffer}
@@ -17,18 +19,18 @@ use Rattle.gl_state.proofs.renderbuffers.delete_renderbuffer.Goals as goal
 pub returns-in_default-clause-ok : goal.returns-in_default-clause-ok
 returns-in_default-clause-ok c =
     rw (← c.state.view_is)
-    (no_context_effect c.state.inside.group c.args.thread (call.Delete kinds.Renderbuffer c.args.name) c.state.invariant.kept (sym c.current_number.ensures ∙ c.in_default.is) refl)
+    (no_context_effect c.state.inside.group c.args.thread (call.Delete kinds.Renderbuffer c.args.name) c.state.invariant.whole.kept (sym c.current_number.ensures ∙ c.in_default.is) refl)
 
 pub returns-in_default-clause-ended : goal.returns-in_default-clause-ended
 returns-in_default-clause-ended c = AreGone-none c.args.state.now c.in_ok-ended.ended c.state.inside.nameless 1 c.in_ok-ended.ensures
 
 pub sweep-requires-clause-tied : goal.sweep-requires-clause-tied
 sweep-requires-clause-tied c =
-    let lost = IsTied-lost c.state.inside.group.renderbuffer_names c.state.inside.group.renderbuffers c.state.inside.nameless.renderbuffers c.state.invariant.tied.renderbuffers c.args.name in
+    let lost = IsTied-lost c.state.inside.group.renderbuffer_names c.state.inside.group.renderbuffers c.state.inside.nameless.renderbuffers c.state.invariant.whole.tied.renderbuffers c.args.name in
     record {
       renderbuffers = rw (c.in_ok-list_nameless.ensures.ok, c.object_of-object.ensures, c.remove.ensures) lost;
-      textures = c.state.invariant.tied.textures;
-      buffers = c.state.invariant.tied.buffers;
+      textures = c.state.invariant.whole.tied.textures;
+      buffers = c.state.invariant.whole.tied.buffers;
     }
 
 pub sweep-requires-clause-room : goal.sweep-requires-clause-room
@@ -46,20 +48,27 @@ sweep-requires-clause-room c =
     }
 
 pub invariant_of-state-2 : goal.invariant_of-state-2
-invariant_of-state-2 c =
-    let lost = IsTied-lost c.state.inside.group.renderbuffer_names c.state.inside.group.renderbuffers c.state.inside.nameless.renderbuffers c.state.invariant.tied.renderbuffers c.args.name in
+invariant_of-state-2 c = record {
+  whole =
+    let lost = IsTied-lost c.state.inside.group.renderbuffer_names c.state.inside.group.renderbuffers c.state.inside.nameless.renderbuffers c.state.invariant.whole.tied.renderbuffers c.args.name in
     IsWhole-after_sweep _ _ (record { buffers = c.state.inside.nameless.buffers; textures = c.state.inside.nameless.textures; renderbuffers = c.list_nameless.new.nameless }) _ c.sweep.ensures.swept
-    (rw c.unbind_in.ensures (IsRising-changed_if c.in-Some.number (λ (b : ℕ) (x : Context). without_renderbuffer x b) c.object_of-object.result c.state.inside.group.contexts c.state.invariant.kept.contexts))
+    (rw c.unbind_in.ensures (IsRising-changed_if c.in-Some.number (λ (b : ℕ) (x : Context). without_renderbuffer x b) c.object_of-object.result c.state.inside.group.contexts c.state.invariant.whole.kept.contexts))
     (record {
       renderbuffers = rw (c.in_ok-list_nameless.ensures.ok, c.object_of-object.ensures, c.remove.ensures) lost;
-      textures = c.state.invariant.tied.textures;
-      buffers = c.state.invariant.tied.buffers;
+      textures = c.state.invariant.whole.tied.textures;
+      buffers = c.state.invariant.whole.tied.buffers;
     })
-    c.sweep.ensures.tied
+    c.sweep.ensures.tied;
+  fits = FitNames-swept _ _ _ c.sweep.ensures.swept (record {
+      buffers_fit = c.state.invariant.fits.buffers_fit;
+      textures_fit = c.state.invariant.fits.textures_fit;
+      renderbuffers_fit = rw c.remove.ensures (Fits-deleted c.note_unused.new.self c.state.inside.group.renderbuffer_names c.args.name c.state.invariant.whole.tied.renderbuffers.ordered (c.note_unused.ensures (λ (n : ℕ). has n c.state.inside.group.renderbuffer_names.objects) c.state.invariant.fits.renderbuffers_fit));
+    });
+}
 
 pub returns-clause-ok : goal.returns-clause-ok
 returns-clause-ok c =
-    let cur = current_at c.state.inside.group c.args.thread c.in-Some.number c.state.invariant.kept (sym c.current_number.ensures ∙ c.in-Some.is) in
+    let cur = current_at c.state.inside.group c.args.thread c.in-Some.number c.state.invariant.whole.kept (sym c.current_number.ensures ∙ c.in-Some.is) in
     rw (← c.state.view_is)
     (c.sweep.ensures.swept
     ∙ rw (c.unbind_in.ensures, c.object_of-object.ensures, c.remove.ensures)

@@ -7,4 +7,4 @@ use Rattle.gl_state.proofs.syncs.fence_sync.Goals as goal
 pub returns-clause-ok : goal.returns-clause-ok
 returns-clause-ok c = λ condition flags.
     rw (c.in_ok-add.ensures.ok, c.has_context-here.ensures, ← c.state.view_is)
-    (syncs-effect c.state.inside.group (with_entry c.args.number tt) c.state.invariant.kept (call.FenceSync c.args.number condition flags) refl (λ n c'. refl) c.args.thread)
+    (syncs-effect c.state.inside.group (with_entry c.args.number tt) c.state.invariant.whole.kept (call.FenceSync c.args.number condition flags) refl (λ n c'. refl) c.args.thread)

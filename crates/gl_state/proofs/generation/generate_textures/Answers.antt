@@ -1,0 +1,29 @@
+use Rattle.gl_model.specs.GroupEffect.{lowest_unused}
+use Rattle.unused_names.proofs.LowestNames.{AreUnused-lowest}
+use Rattle.gl_state.proofs.NamesInUse.{IsTied-generated_all, FitNames-swept}
+use Rattle.gl_state.proofs.SweptStates.{IsWhole-after_sweep}
+use Rattle.gl_state.proofs.generation.generate_textures.Goals as goal
+
+pub sweep-requires-clause-tied : goal.sweep-requires-clause-tied
+sweep-requires-clause-tied c = record {
+  buffers = c.state.invariant.whole.tied.buffers;
+  textures = rw c.in_ok-names.ensures.ok (IsTied-generated_all (lowest_unused c.state.inside.group.texture_names.objects c.unsigned_abs.result) c.state.inside.group.texture_names c.state.inside.group.textures c.state.inside.nameless.textures (AreUnused-lowest c.state.inside.group.texture_names.objects c.unsigned_abs.result) c.state.invariant.whole.tied.textures);
+  renderbuffers = c.state.invariant.whole.tied.renderbuffers;
+}
+
+pub invariant_of-state-2 : goal.invariant_of-state-2
+invariant_of-state-2 c = record {
+  whole =
+      IsWhole-after_sweep _ _ c.state.inside.nameless _ c.sweep.ensures.swept c.state.invariant.whole.kept.contexts
+      (record {
+        buffers = c.state.invariant.whole.tied.buffers;
+        textures = rw c.in_ok-names.ensures.ok (IsTied-generated_all (lowest_unused c.state.inside.group.texture_names.objects c.unsigned_abs.result) c.state.inside.group.texture_names c.state.inside.group.textures c.state.inside.nameless.textures (AreUnused-lowest c.state.inside.group.texture_names.objects c.unsigned_abs.result) c.state.invariant.whole.tied.textures);
+        renderbuffers = c.state.invariant.whole.tied.renderbuffers;
+      })
+      c.sweep.ensures.tied;
+  fits = FitNames-swept _ _ _ c.sweep.ensures.swept (record {
+    buffers_fit = c.state.invariant.fits.buffers_fit;
+    textures_fit = c.in_ok-names.ensures.fits;
+    renderbuffers_fit = c.state.invariant.fits.renderbuffers_fit;
+  });
+}

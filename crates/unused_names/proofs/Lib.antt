@@ -1,0 +1,3 @@
+pub mod LowestNames
+pub mod Generated
+pub mod Gaps
