@@ -18,3 +18,5 @@ pub mod Ordered
 pub mod Images
 pub mod NamesInUse
 pub mod Generating
+pub mod NoneGone
+pub mod ReplyLaws

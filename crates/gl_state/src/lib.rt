@@ -2,15 +2,17 @@
 #![tactic(auto)]
 
 mod applied;
-mod apply;
+mod plain;
 mod bindings;
 mod buffers;
 mod contexts;
+mod dispatch;
 mod egl;
 mod nameless;
 mod framebuffer_calls;
 mod framebuffers;
 mod generation;
+mod laws;
 mod names;
 mod parameters;
 mod references;
@@ -24,7 +26,9 @@ mod textures;
 #[cfg(test)]
 mod tests;
 
-pub use apply::apply_plain;
+pub use applied::{Applied, Switched};
+pub use plain::apply_plain;
+pub use dispatch::apply;
 pub use bindings::{bind_buffer, delete_buffer};
 pub use contexts::current_number;
 pub use buffers::{buffer_data, map_buffer_range, unmap_buffer};
@@ -35,6 +39,7 @@ pub use framebuffer_calls::{
 pub use generation::{
     generate_buffers, generate_framebuffers, generate_renderbuffers, generate_textures,
 };
+pub use laws::replies_are_answers;
 pub use nameless::Ended;
 pub use parameters::{get_error, pixel_store, scissor_box, scissor_test};
 pub use renderbuffers::{bind_renderbuffer, delete_renderbuffer};
