@@ -6,3 +6,5 @@ pub mod Outcomes
 pub mod Recorded
 pub mod Recordable
 pub mod BufferStores
+pub mod EndedBuffers
+pub mod StateCalls

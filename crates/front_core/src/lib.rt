@@ -12,6 +12,7 @@ mod pending;
 mod recording;
 mod share;
 mod state_calls;
+mod state_calls_come_to;
 mod recording_comes_to;
 mod stores;
 mod stores_come_to;
