@@ -21,7 +21,9 @@ unfolding put_object
 put_object-at f o v q = refl
 
 or_last : (a b : Bool) → (a || (b || false)) ≡ (a || b)
-or_last a b = grind (common_steps)
+or_last true b = refl
+or_last false true = refl
+or_last false false = refl
 
 is_ended-more : (xs : List ℕ) (b : ℕ) (o : Object) → is_ended (xs ++ b ∷ []) o ≡ (is_ended xs o || same_object o (Buffer b))
 is_ended-more xs b (Buffer c) = list_any-append (λ d. c == d) xs (b ∷ []) ∙ or_last (list_any (λ d. c == d) xs) (c == b)
@@ -90,13 +92,15 @@ one_more_ended f g h s t u xs b before moved group = record {
 -- Which ones are gone
 
 -- a key is listed where the table has it
-key_step : {V : Type 0} (k : ℕ) (e : ℕ × V) (t : Entries V) (b : Bool) → (k == e.0) ≡ b → list_any (λ c. k == c) (keys_of t) ≡ has k t → list_any (λ c. k == c) (keys_of (e ∷ t)) ≡ has k (e ∷ t)
-key_step k e t true h rest = rw (h, is_at-nat_cmp k e.0, h) refl
-key_step k e t false h rest = rw (h, is_at-nat_cmp k e.0, h) rest
+listed_first : {V : Type 0} (b : Bool) (v : V) (o : Option V) → (b || is_some o) ≡ is_some (cond b (Some v) o)
+listed_first true v o = refl
+listed_first false v o = refl
 
 listed : {V : Type 0} (k : ℕ) (t : Entries V) → list_any (λ c. k == c) (keys_of t) ≡ has k t
 listed k [] = refl
-listed k (e ∷ t) = key_step k e t (k == e.0) refl (listed k t)
+listed k (e ∷ t) =
+    ap (λ b. (k == e.0) || b) (listed k t) ∙ listed_first (k == e.0) e.1 (entry k t)
+    ∙ sym (ap (λ b. is_some (cond b (Some e.1) (entry k t))) (is_at-nat_cmp k e.0))
 
 pub gone_is : {V : Type 0} (before after : Entries V) (k : ℕ) → list_any (λ c. k == c) (gone before after) ≡ cond (has k after) false (has k before)
 gone_is before after k = listed k (only (λ b. not (has b after)) before) ∙ ap is_some (entry-only (λ b. not (has b after)) k before) ∙ by_after (has k after) (entry k before)

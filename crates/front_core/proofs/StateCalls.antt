@@ -1,5 +1,5 @@
 -- Calls that write no cells keep what the front has, but for the buffers that stop existing.
-use Rattle.std.proofs.Common.{◌≡◌, ◌≢◌, ℕ, ◌<◌, ◌==◌, Bool, true, false, cond, Option, Some, None, List, [], refl, sym, ◌∙◌, ap, subst, is_some, if◌then◌else◌}
+use Rattle.std.proofs.Common.{◌≡◌, ◌≢◌, ℕ, ℤ, ◌<◌, ◌==◌, Bool, true, false, cond, Option, Some, None, List, [], refl, sym, ◌∙◌, ap, subst, is_some, if◌then◌else◌}
 use Rattle.std.specs.Option.{option_map, option_map_or, option_and_then}
 use Rattle.std.specs.List.{list_any}
 use Rattle.std.proofs.lemmas.Bool.{false≢true, cases_Bool}
@@ -26,7 +26,7 @@ use Rattle.gl_model.specs.Sizes.{HasSizes}
 use Rattle.back_core.specs.Link.{Link}
 use Rattle.front_model.specs.Face.{Object, Buffer, Texture, Renderbuffer, Face, Outline, outline_at, view}
 use Rattle.front_model.specs.Stands.{IsQuiet}
-use Rattle.front_model.specs.Wanted.{kind_wanted, wanted, AgreeWith, exists, IsMapped, IsAccepted, HasFreeNumbers}
+use Rattle.front_model.specs.Wanted.{buffer_kind, kind_wanted, wanted, AgreeWith, exists, IsMapped, IsAccepted, HasFreeNumbers}
 use Rattle.front_model.specs.Calls.{makes_storage}
 use Rattle.front_core.specs.Core.{CoreParts, face}
 use Rattle.front_core.specs.Ending.{is_ended, HasEnded}
@@ -53,11 +53,17 @@ accepted_in state thread asked in_context accepted sizes referred = by_context (
     by_context None is none = let bad : ⊥ = cc in absurd bad
     by_context (Some context) is none = (context, record { current = is; accepted = accepted; sizes = sizes; referred = referred })
 
-none_either : {A B : Type 0} (o : Option A) → option_map_or (λ _. None {B}) o None ≡ None {B}
+abbrev no_number : Option ℕ
+no_number = None
+
+abbrev no_images : List Attachment
+no_images = []
+
+none_either : (o : Option Context) → option_map_or (λ (c : Context). no_number) o no_number ≡ no_number
 none_either None = refl
 none_either (Some c) = refl
 
-nil_either : {A B : Type 0} (o : Option A) → option_map_or (λ _. [] {B}) o [] ≡ [] {B}
+nil_either : (o : Option Context) → option_map_or (λ (c : Context). no_images) o no_images ≡ no_images
 nil_either None = refl
 nil_either (Some c) = refl
 
@@ -107,3 +113,87 @@ module _ (laws : Keeping) (state : GroupModel) (thread place : ℕ) (seen : Obje
   still_agrees (call.Bind (targets.Buffer target) name) which accepted = quiet (call.Bind (targets.Buffer target) name) (none_either (current_context state.group thread)) (nil_either (current_context state.group thread))
   still_agrees (call.PixelStore parameter value) which accepted = quiet (call.PixelStore parameter value) (none_either (current_context state.group thread)) (nil_either (current_context state.group thread))
   still_agrees asked which accepted = absurd (false≢true which)
+
+-- The stores, and what is mapped
+
+abbrev pub KeepsStores : Type 0
+KeepsStores = (state : GroupModel) (thread : ℕ) (asked : Call) → HasSizes state → HasFreeNumbers state.group → makes_storage asked ≡ false → (o : Object) →
+    kind_wanted (group_effect state.group thread asked) o ≡ (if exists (group_effect state.group thread asked) o then kind_wanted state.group o else None)
+
+abbrev pub KeepsMaps : Type 0
+KeepsMaps = (state : GroupModel) (thread : ℕ) (asked : Call) → HasSizes state →
+    ((target : BufferTarget) (offset len : ℤ) (access : AccessWord) → asked ≢ call.MapBufferRange target offset len access) → (b : ℕ) →
+    IsMapped (group_effect state.group thread asked) b → IsMapped state.group b
+
+-- the kind of an object's store
+abbrev kind_of : Option Outline → Option Kind
+kind_of o = option_map (λ v. v.kind) o
+
+-- what has no store in a state has no outline
+no_kind : (o : Option Outline) → kind_of o ≡ None → o ≡ None
+no_kind None none = refl
+no_kind (Some v) none = let bad : ⊥ = cc in absurd bad
+
+-- a buffer that does not exist is to have no store
+no_buffer : (group : GroupState) (b : ℕ) → has b group.buffers ≡ false → kind_wanted group (Buffer b) ≡ None
+no_buffer group b absent = by_entry (λ f. buffer_kind f.size) (entry b group.buffers) absent
+  where
+    by_entry : {V : Type 0} (look : V → Option Kind) (o : Option V) → is_some o ≡ false → option_and_then look o ≡ None
+    by_entry look None none = refl
+    by_entry look (Some v) none = absurd (false≢true (sym none))
+
+module _ (c : CoreParts) (g : Face) (s t : Link) (group after : GroupState) (thread : ℕ) (ended : List ℕ) where
+  -- each store is there that the state after is to have
+  pub kinds_left : ((b : ℕ) → list_any (λ d. b == d) ended ≡ cond (has b after.buffers) false (has b group.buffers)) →
+      ((o : Object) → kind_wanted after o ≡ (if exists after o then kind_wanted group o else None)) →
+      ((o : Object) → option_map (λ v. v.kind) (outline_at (face c) o) ≡ kind_wanted group o) → HasEnded (face c) g s t ended →
+      (o : Object) → option_map (λ v. v.kind) (outline_at g o) ≡ kind_wanted after o
+  kinds_left ended_is kept kinds has_ended (Buffer b) =
+      ap kind_of (has_ended.outlines_are (Buffer b) ∙ ap (λ e. cond e None (outline_at (face c) (Buffer b))) (ended_is b))
+      ∙ by_left (has b after.buffers) (has b group.buffers) refl
+      ∙ sym (kept (Buffer b))
+    where
+      by_left : (l w : Bool) → has b group.buffers ≡ w → kind_of (cond (cond l false w) None (outline_at (face c) (Buffer b))) ≡ (if l then kind_wanted group (Buffer b) else None)
+      by_left true w was = kinds (Buffer b)
+      by_left false true was = refl
+      by_left false false was = kinds (Buffer b) ∙ no_buffer group b was
+  kinds_left ended_is kept kinds has_ended (Texture n) = ap kind_of (has_ended.outlines_are (Texture n)) ∙ nothing (exists after (Texture n)) ∙ sym (kept (Texture n))
+    where
+      nothing : (l : Bool) → None ≡ (if l then kind_wanted group (Texture n) else None)
+      nothing true = kinds (Texture n)
+      nothing false = refl
+  kinds_left ended_is kept kinds has_ended (Renderbuffer n) = ap kind_of (has_ended.outlines_are (Renderbuffer n)) ∙ nothing (exists after (Renderbuffer n)) ∙ sym (kept (Renderbuffer n))
+    where
+      nothing : (l : Bool) → None ≡ (if l then kind_wanted group (Renderbuffer n) else None)
+      nothing true = kinds (Renderbuffer n)
+      nothing false = refl
+
+  -- a mapped buffer is quiet still
+  pub maps_left : ((b : ℕ) → list_any (λ d. b == d) ended ≡ cond (has b after.buffers) false (has b group.buffers)) →
+      ((b : ℕ) → IsMapped after b → IsMapped group b) → ((b : ℕ) → IsMapped group b → IsQuiet (face c) s (Buffer b)) → HasEnded (face c) g s t ended →
+      (b : ℕ) → IsMapped after b → IsQuiet g t (Buffer b)
+  maps_left ended_is kept quiet has_ended b mapped =
+      has_ended.still (Buffer b) (ended_is b ∙ ap (λ l. cond l false (has b group.buffers)) (ap is_some mapped.is)) (quiet b (kept b mapped))
+
+  -- what is seen of the objects that are left agrees still, and nothing is to be seen of those that ended
+  pub agrees_left : (state : GroupModel) → state.group ≡ after → HasSizes state → ((b : ℕ) → list_any (λ d. b == d) ended ≡ cond (has b after.buffers) false (has b group.buffers)) →
+      HasEnded (face c) g s t ended → AgreeWith (view (face c) s) (wanted state) → AgreeWith (view g t) (wanted state)
+  agrees_left state is sizes ended_is has_ended agree (Buffer b) p below =
+      has_ended.view_is (Buffer b) p ∙ by_ended (list_any (λ d. b == d) ended) refl
+    where
+      absent : (l w : Bool) → cond l false w ≡ true → l ≡ false
+      absent true w e = absurd (false≢true e)
+      absent false w e = refl
+
+      none_there : {V : Type 0} (o : Option V) → is_some o ≡ false → o ≡ None
+      none_there None e = refl
+      none_there (Some v) e = absurd (false≢true (sym e))
+
+      by_ended : (e : Bool) → list_any (λ d. b == d) ended ≡ e → cond e UNDEFINED (view (face c) s (Buffer b) p) ≡ wanted state (Buffer b) p
+      by_ended false e = agree (Buffer b) p below
+      by_ended true e =
+          let out : has b after.buffers ≡ false = absent (has b after.buffers) (has b group.buffers) (sym (ended_is b) ∙ e) in
+          let gone : entry b state.group.buffers ≡ None = none_there (entry b state.group.buffers) (ap (λ (x : GroupState). has b x.buffers) is ∙ out) in
+          sym (ap (λ x. cell_at x.cells p) (sizes.gone b gone))
+  agrees_left state is sizes ended_is has_ended agree (Texture n) p below = has_ended.view_is (Texture n) p ∙ agree (Texture n) p below
+  agrees_left state is sizes ended_is has_ended agree (Renderbuffer n) p below = has_ended.view_is (Renderbuffer n) p ∙ agree (Renderbuffer n) p below

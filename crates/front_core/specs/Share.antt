@@ -62,7 +62,7 @@ pub record MayCall (f : Face) (s : Link) (group : GroupState) (thread : ℕ) (ca
   pub accepted : refusal group thread call ≡ None
   pub model : GroupModel
   pub is : IsStateOf model group
-  pub data : HasItsData call
+  pub its_data : HasItsData call
 
 -- the calls that are built
 abbrev pub is_built : Call → Bool
