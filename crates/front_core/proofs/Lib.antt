@@ -8,3 +8,5 @@ pub mod Recordable
 pub mod BufferStores
 pub mod EndedBuffers
 pub mod StateCalls
+pub mod ContextIndexes
+pub mod Switching
