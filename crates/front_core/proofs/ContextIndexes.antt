@@ -98,3 +98,8 @@ left_indexes before after serials group h fewer = record {
 pub same_entries : {V : Type 0} (t : Entries V) → map (λ e. (e.0, e.1)) t ≡ t
 same_entries [] = refl
 same_entries (e ∷ t) = ap (λ rest. e ∷ rest) (same_entries t)
+
+-- the same said of equal tables
+pub indexes_of_equal : (x y : Entries Context) (p q : Entries ℕ) (m n : ℕ) → x ≡ y → p ≡ q → m ≡ n → HaveIndexes y q n → HaveIndexes x p m
+indexes_of_equal x y p q m n contexts serials group h =
+    subst (λ k. HaveIndexes x p k) (sym group) (subst (λ t. HaveIndexes x t n) (sym serials) (subst (λ t. HaveIndexes t q n) (sym contexts) h))
