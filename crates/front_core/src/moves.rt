@@ -146,6 +146,7 @@ impl Core {
         ensures moved { Moved (face self.new) (L.state link.new)
             (put_object (view (face self.old) (L.state link.old)) (Buffer buffer) (new_cells None))
             (put_object (outline_at (face self.old)) (Buffer buffer) None) (IsQuietBut (face self.old) (L.state link.old) buffer) }
+        ensures group { (face self.new).group ≡ (face self.old).group }
         ensures faults { L.faults link.old ≤ L.faults link.new }
     {
         end_comes_to();
