@@ -15,3 +15,4 @@ pub mod EndedBuffers
 pub mod StateCalls
 pub mod ContextIndexes
 pub mod Switching
+pub mod BufferCalls

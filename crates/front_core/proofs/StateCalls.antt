@@ -53,17 +53,17 @@ accepted_in state thread asked in_context accepted sizes referred = by_context (
     by_context None is none = let bad : ⊥ = cc in absurd bad
     by_context (Some context) is none = (context, record { current = is; accepted = accepted; sizes = sizes; referred = referred })
 
-abbrev no_number : Option ℕ
+abbrev pub no_number : Option ℕ
 no_number = None
 
-abbrev no_images : List Attachment
+abbrev pub no_images : List Attachment
 no_images = []
 
-none_either : (o : Option Context) → option_map_or (λ (c : Context). no_number) o no_number ≡ no_number
+pub none_either : (o : Option Context) → option_map_or (λ (c : Context). no_number) o no_number ≡ no_number
 none_either None = refl
 none_either (Some c) = refl
 
-nil_either : (o : Option Context) → option_map_or (λ (c : Context). no_images) o no_images ≡ no_images
+pub nil_either : (o : Option Context) → option_map_or (λ (c : Context). no_images) o no_images ≡ no_images
 nil_either None = refl
 nil_either (Some c) = refl
 

@@ -3,6 +3,7 @@
 
 mod buffer_calls;
 mod buffers;
+mod calls_come_to;
 mod comes_to;
 mod context_calls;
 mod group_core;

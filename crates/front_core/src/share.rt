@@ -1,5 +1,5 @@
 // A share group's state and objects, and how its calls find what they name.
-ghost use Rattle.std.specs.Prelude.{◌≡◌, ℕ, Some, IfSome, IfNone};
+ghost use Rattle.std.specs.Prelude.{◌≡◌, ℕ, ◌≤◌, Some, IfSome, IfNone};
 ghost use Rattle.gl_model.specs.declared.state.Context.{Context};
 ghost use Rattle.gl_model.specs.declared.objects.BufferFacts.{BufferFacts};
 ghost use Rattle.gl_model.specs.declared.objects.Mapped.{Mapped};
@@ -54,11 +54,12 @@ impl Share {
     /// The mapped buffer that is bound to a target on a thread, and where in it its map begins.
     pub(crate) fn mapped(&self, thread: u32, target: BufferTarget) -> Option<(u32, u64)>
         ensures some { IfSome result (λ r. (context : Context) → current_context self.now.state thread ≡ Some context →
-            (facts : BufferFacts) × (mapped : Mapped) × IsBound self.now.state context target r.0 facts × (facts.map ≡ Some mapped) × (mapped.at ≡ r.1)) }
+            (facts : BufferFacts) × (mapped : Mapped) × IsBound self.now.state context target r.0 facts × (facts.map ≡ Some mapped) × (mapped.at ≡ r.1) × (facts.size ≤ 18446744073709551615)) }
         ensures none { IfNone result ((context : Context) (b : ℕ) (facts : BufferFacts) (mapped : Mapped) → current_context self.now.state thread ≡ Some context →
             IsBound self.now.state context target b facts → facts.map ≡ Some mapped → ⊥) }
     {
         let (buffer, facts) = self.bound(thread, target)?;
+        let _size = facts.size;
         match facts.map {
             Some(mapped) => Some((buffer, mapped.at)),
             None => None,
