@@ -1,10 +1,16 @@
 -- Calls on buffers that leave the state without contents as it is.
 use Rattle.std.proofs.Common.{arith, ◌≡◌, ◌≢◌, ℕ, ℤ, ◌+◌, ◌<◌, ◌≤◌, ◌==◌, Bool, true, false, Option, Some, None, List, [], refl, sym, ◌∙◌, ap, subst}
-use Rattle.std.specs.Prelude.{unsigned_abs}
+use Rattle.std.specs.Prelude.{unsigned_abs, length}
+use Rattle.std.proofs.Math.Path.{fun_ext}
+use Rattle.std.proofs.lemmas.List.FromFn.{length-map-range_with_len}
+use Rattle.cells.specs.Contents.{in_range}
 use Rattle.std.specs.Option.{option_map, option_and_then}
 use Rattle.vk_types.specs.declared.handles.Kind.{Kind}
 use Rattle.vk_types.specs.declared.handles.Kind.TheVariants as kind
 use Rattle.gl_calls.specs.declared.call.Call.{Call}
+use Rattle.gl_calls.specs.declared.payload.Payload.{Payload}
+use Rattle.gl_calls.specs.declared.payload.Payload.TheVariants.{Literal, Ramp}
+use Rattle.gl_calls.specs.Words.{payload_len, payload_bytes}
 use Rattle.gl_calls.specs.declared.reply.Reply.{Reply}
 use Rattle.gl_calls.specs.declared.reply.Reply.TheVariants as reply
 use Rattle.gl_calls.specs.declared.words.BufferTarget.{BufferTarget}
@@ -22,9 +28,10 @@ use Rattle.gl_model.specs.Legal.{Answers, GlAnswers, GlAnswersIn}
 use Rattle.gl_model.specs.Refusal.{refusal, gl_refusal}
 use Rattle.gl_calls.specs.Egl.{is_egl_call}
 use Rattle.back_core.specs.Link.{Link}
-use Rattle.front_model.specs.Face.{Object, Buffer, Face, Outline, outline, outline_at, view}
-use Rattle.front_model.specs.Stands.{Moved, IsQuiet}
-use Rattle.front_model.specs.Wanted.{buffer_kind, kind_wanted, wanted, AgreeWith, IsMapped, IsAccepted, IsBound, HasBound, HasMapRange}
+use Rattle.front_model.specs.Face.{Object, Buffer, Face, Outline, outline, outline_at, put_object, view}
+use Rattle.front_model.specs.Stands.{Moved, IsQuiet, Holds, no_hands}
+use Rattle.front_model.specs.Wanted.{buffer_kind, kind_wanted, wanted, AgreeWith, IsMapped, IsAccepted, IsBound, HasBound, HasMapRange, with_bytes}
+use Rattle.front_core.proofs.BufferLaws.{put_object-same_value}
 use Rattle.front_core.specs.Buffers.{stored_of}
 use Rattle.front_core.specs.Core.{CoreParts, face, HasStore, outline_of_size}
 use Rattle.front_core.specs.Share.{MayCall, IsStateOf, IsCarriedOut}
@@ -149,3 +156,27 @@ nothing_changes group thread asked is_gl none = rw is_gl (ap swept (in_either (c
 -- the answer of a call in its context
 pub done_answers : (state : GroupModel) (thread : ℕ) (asked : Call) (context : Context) → current_context state.group thread ≡ Some context → GlAnswers state context asked reply.Done → GlAnswersIn state (current_context state.group thread) asked reply.Done
 done_answers state thread asked context is given = subst (λ o. GlAnswersIn state o asked reply.Done) (sym is) given
+
+-- Bytes of a payload
+
+pub length-payload_bytes : (payload : Payload) → length (payload_bytes payload) ≡ payload_len payload
+length-payload_bytes (Literal bytes) = refl
+length-payload_bytes (Ramp len start step) = length-map-range_with_len _ 0 len
+
+-- a write of bytes into the map of a quiet buffer
+abbrev pub Wrote : Face → Link → Link → ℕ → ℕ → List ℕ → Type 0
+Wrote f s t b at bytes = Moved f t (put_object (view f s) (Buffer b) (with_bytes (view f s (Buffer b)) at bytes)) (outline_at f) (IsQuiet f s)
+
+pub wrote_as : (f : Face) (s t : Link) (b at at' : ℕ) (bytes bytes' : List ℕ) → at ≡ at' → bytes ≡ bytes' → Wrote f s t b at bytes → Wrote f s t b at' bytes'
+wrote_as f s t b at at' bytes bytes' places same wrote = subst (λ n. Wrote f s t b n bytes') places (subst (λ xs. Wrote f s t b at xs) same wrote)
+
+pub with_nothing : (old : ℕ → ℕ) (at : ℕ) (bytes : List ℕ) → length bytes ≡ 0 → with_bytes old at bytes ≡ old
+with_nothing old at bytes none = fun_ext (λ i. let e : in_range at (length bytes) i ≡ false = rw none (grind arith) in rw e refl)
+
+pub wrote_nothing : (f : Face) (s : Link) (b at : ℕ) (bytes : List ℕ) → length bytes ≡ 0 → Holds f no_hands s → Wrote f s s b at bytes
+wrote_nothing f s b at bytes none holds = record {
+  holds = holds;
+  view_is = sym (put_object-same_value (view f s) (Buffer b) (with_bytes (view f s (Buffer b)) at bytes) (sym (with_nothing (view f s (Buffer b)) at bytes none)));
+  outlines_are = refl;
+  still = λ o quiet. quiet;
+}

@@ -6,6 +6,7 @@ ghost use Rattle.front_model.specs.Stands.{Owns};
 ghost use Rattle.front_core.specs.Core.{face};
 ghost use Rattle.front_core.specs.Share.{MayCall, IsCarriedOut};
 
+use crate::calls_come_to::map_calls_come_to;
 use crate::share::Share;
 use back_core::BackLink;
 use cells::Bytes;
@@ -61,6 +62,7 @@ impl Share {
         ensures err { OnErr result (Owns (face self.new.core).objects (L.state link.new)) }
         ensures cause { HasCause (L.faults link.old) (L.faults link.new) result }
     {
+        map_calls_come_to();
         let Some((buffer, place)) = self.mapped(thread, target) else {
             unreachable!();
         };
@@ -97,6 +99,7 @@ impl Share {
         ensures err { OnErr result (Owns (face self.new.core).objects (L.state link.new)) }
         ensures cause { HasCause (L.faults link.old) (L.faults link.new) result }
     {
+        map_calls_come_to();
         let Some((buffer, place)) = self.mapped(thread, target) else {
             unreachable!();
         };
