@@ -1,9 +1,10 @@
 -- Calls on buffers that leave the state without contents as it is.
-use Rattle.std.proofs.Common.{arith, ◌≡◌, ◌≢◌, ℕ, ℤ, ◌+◌, ◌<◌, ◌≤◌, ◌==◌, Bool, true, false, Option, Some, None, List, [], refl, sym, ◌∙◌, ap, subst}
-use Rattle.std.specs.Prelude.{unsigned_abs, length}
+use Rattle.std.proofs.Common.{arith, ◌≡◌, ◌≢◌, ℕ, ℤ, ◌+◌, ◌<◌, ◌≤◌, ◌==◌, Bool, true, false, Option, Some, None, List, [], ◌∷◌, ◌++◌, suc, refl, sym, ◌∙◌, ap, subst}
+use Rattle.std.specs.Prelude.{unsigned_abs, length, take, drop}
+use Rattle.std.proofs.Math.Seq.{take-append_seam}
 use Rattle.std.proofs.Math.Path.{fun_ext}
 use Rattle.std.proofs.lemmas.List.FromFn.{length-map-range_with_len}
-use Rattle.cells.specs.Contents.{in_range}
+use Rattle.cells.specs.Contents.{in_range, cells, Agrees}
 use Rattle.std.specs.Option.{option_map, option_and_then}
 use Rattle.vk_types.specs.declared.handles.Kind.{Kind}
 use Rattle.vk_types.specs.declared.handles.Kind.TheVariants as kind
@@ -180,3 +181,23 @@ wrote_nothing f s b at bytes none holds = record {
   outlines_are = refl;
   still = λ o quiet. quiet;
 }
+
+-- Bytes that were read
+
+pub moved_none : (f : Face) (s : Link) → Holds f no_hands s → Moved f s (view f s) (outline_at f) (IsQuiet f s)
+moved_none f s holds = record { holds = holds; view_is = refl; outlines_are = refl; still = λ o quiet. quiet }
+
+pub agrees_none : (out : List ℕ) (len : ℕ) (at : ℕ → ℕ) → out ≡ [] → len ≡ 0 → Agrees out (cells len at)
+agrees_none out len at none nothing = subst (λ n. Agrees out (cells n at)) (sym nothing) (subst (λ xs. Agrees xs []) (sym none) tt)
+
+pub agrees_length : (out content : List ℕ) → Agrees out content → length out ≡ length content
+agrees_length [] [] agrees = refl
+agrees_length (x ∷ xs) (y ∷ ys) agrees = ap suc (agrees_length xs ys agrees.1)
+agrees_length [] (y ∷ ys) agrees = absurd agrees
+agrees_length (x ∷ xs) [] agrees = absurd agrees
+
+pub length-cells : (n : ℕ) (at : ℕ → ℕ) → length (cells n at) ≡ n
+length-cells n at = length-map-range_with_len at 0 n
+
+pub written_over : (xs ys : List ℕ) → length ys ≡ length xs → take (length xs) (ys ++ drop (length ys) xs) ≡ ys
+written_over xs ys e = subst (λ n. take n (ys ++ drop (length ys) xs) ≡ ys) e (take-append_seam ys (drop (length ys) xs))
