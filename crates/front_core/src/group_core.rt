@@ -151,6 +151,7 @@ impl Core {
         requires group { IsOfGroup (face self.old).group index }
         ensures some { OnOk result (HasFlushedSome (face self.old) (face self.new) (L.state link.old) (L.state link.new)) }
         ensures apart { OnOk result (IsApart (face self.new) index buffer) }
+        ensures group { (face self.new).group ≡ (face self.old).group }
         ensures err { OnErr result (Owns (face self.new).objects (L.state link.new)) }
         ensures cause { HasCause (L.faults link.old) (L.faults link.new) result }
     {
@@ -170,6 +171,7 @@ impl Core {
         requires holds { Holds (face self.old) no_hands (L.state link.old) }
         ensures some { OnOk result (HasFlushedSome (face self.old) (face self.new) (L.state link.old) (L.state link.new)) }
         ensures parted { OnOk result (IsParted (face self.new) index buffer) }
+        ensures group { (face self.new).group ≡ (face self.old).group }
         ensures err { OnErr result (Owns (face self.new).objects (L.state link.new)) }
         ensures cause { HasCause (L.faults link.old) (L.faults link.new) result }
     {
@@ -198,6 +200,7 @@ impl Core {
         ensures flushed { OnOk result (OnlyFlushed (face self.old) (face self.new)) }
         ensures parted { OnOk result (IsParted (face self.new) index buffer) }
         ensures few { OnOk result (length ((face self.new).pending index) < 1024) }
+        ensures group { (face self.new).group ≡ (face self.old).group }
         ensures err { OnErr result (Owns (face self.new).objects (L.state link.new)) }
         ensures cause { HasCause (L.faults link.old) (L.faults link.new) result }
     {
