@@ -11,6 +11,7 @@ ghost use Rattle.front_model.specs.Wanted.{with_bytes};
 ghost use Rattle.front_core.specs.Core.{face, IsQuietBut, outline_of_size};
 ghost use Rattle.front_core.specs.Share.{MayCall, IsCarriedOut};
 
+use crate::calls_come_to::map_calls_come_to;
 use crate::share::Share;
 use back_core::BackLink;
 use gl_calls::{BufferTarget, Call, Payload, Reply, Usage};
@@ -148,6 +149,7 @@ impl Share {
         ensures err { OnErr result (Owns (face self.new.core).objects (L.state link.new)) }
         ensures cause { HasCause (L.faults link.old) (L.faults link.new) result }
     {
+        map_calls_come_to();
         match payload {
             Some(payload) => {
                 let Ok(bytes) = payload.bytes(self.alloc) else {
