@@ -11,3 +11,8 @@ pub mod BufferStores
 pub mod Uploads
 pub mod MovesInTurn
 pub mod Settling
+pub mod EndedBuffers
+pub mod StateCalls
+pub mod ContextIndexes
+pub mod Switching
+pub mod BufferCalls

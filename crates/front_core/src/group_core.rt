@@ -59,6 +59,14 @@ impl Core {
         }
     }
 
+    /// The number of the group.
+    pub(crate) fn group(&self) -> u8
+        ensures value { result ≡ (face self.now).group }
+        ensures bound { result < 8 }
+    {
+        self.group
+    }
+
     /// The place of an index in the group.
     pub(crate) fn place(&self, index: SerialIndex) -> usize
         requires { IsOfGroup (face self.now).group index }
@@ -94,6 +102,7 @@ impl Core {
         requires group { IsOfGroup (face self.old).group index }
         ensures moved { OnOk result (Moved (face self.new) (L.state link.new) (view (face self.old) (L.state link.old)) (outline_at (face self.old)) (IsQuiet (face self.old) (L.state link.old))) }
         ensures flushed { OnOk result (IsFlushed (face self.old) (face self.new) index) }
+        ensures group { (face self.new).group ≡ (face self.old).group }
         ensures log { OnOk result (log_of (L.state link.new).mine ≡ log_of (L.state link.old).mine ++ commands 0 ((face self.old).pending index)) }
         ensures err { OnErr result (Owns (face self.new).objects (L.state link.new)) }
         ensures cause { HasCause (L.faults link.old) (L.faults link.new) result }
@@ -142,6 +151,7 @@ impl Core {
         requires group { IsOfGroup (face self.old).group index }
         ensures some { OnOk result (HasFlushedSome (face self.old) (face self.new) (L.state link.old) (L.state link.new)) }
         ensures apart { OnOk result (IsApart (face self.new) index buffer) }
+        ensures group { (face self.new).group ≡ (face self.old).group }
         ensures err { OnErr result (Owns (face self.new).objects (L.state link.new)) }
         ensures cause { HasCause (L.faults link.old) (L.faults link.new) result }
     {
@@ -161,6 +171,7 @@ impl Core {
         requires holds { Holds (face self.old) no_hands (L.state link.old) }
         ensures some { OnOk result (HasFlushedSome (face self.old) (face self.new) (L.state link.old) (L.state link.new)) }
         ensures parted { OnOk result (IsParted (face self.new) index buffer) }
+        ensures group { (face self.new).group ≡ (face self.old).group }
         ensures err { OnErr result (Owns (face self.new).objects (L.state link.new)) }
         ensures cause { HasCause (L.faults link.old) (L.faults link.new) result }
     {
@@ -189,6 +200,7 @@ impl Core {
         ensures flushed { OnOk result (OnlyFlushed (face self.old) (face self.new)) }
         ensures parted { OnOk result (IsParted (face self.new) index buffer) }
         ensures few { OnOk result (length ((face self.new).pending index) < 1024) }
+        ensures group { (face self.new).group ≡ (face self.old).group }
         ensures err { OnErr result (Owns (face self.new).objects (L.state link.new)) }
         ensures cause { HasCause (L.faults link.old) (L.faults link.new) result }
     {

@@ -31,6 +31,7 @@ impl Core {
         ensures moved { OnOk result (Moved (face self.new) (L.state link.new)
             (put_object (view (face self.old) (L.state link.old)) (Buffer buffer) (with_bytes (view (face self.old) (L.state link.old) (Buffer buffer)) at bytes.now))
             (outline_at (face self.old)) (IsQuietBut (face self.old) (L.state link.old) buffer)) }
+        ensures group { (face self.new).group ≡ (face self.old).group }
         ensures err { OnErr result (Owns (face self.new).objects (L.state link.new)) }
         ensures cause { HasCause (L.faults link.old) (L.faults link.new) result }
     {
@@ -75,6 +76,7 @@ impl Core {
             (put_object (view (face self.old) (L.state link.old)) (Buffer dst)
             (with_copy (view (face self.old) (L.state link.old) (Buffer dst)) dst_at size (view (face self.old) (L.state link.old) (Buffer src)) src_at))
             (outline_at (face self.old)) (λ o. IsQuietBut (face self.old) (L.state link.old) dst o × (o ≢ Buffer src))) }
+        ensures group { (face self.new).group ≡ (face self.old).group }
         ensures err { OnErr result (Owns (face self.new).objects (L.state link.new)) }
         ensures cause { HasCause (L.faults link.old) (L.faults link.new) result }
     {
@@ -102,6 +104,7 @@ impl Core {
             (put_object (view (face self.old) (L.state link.old)) (Buffer buffer) (new_cells (Some bytes.now)))
             (put_object (outline_at (face self.old)) (Buffer buffer) (outline_of_size (length bytes.now)))
             (IsQuietBut (face self.old) (L.state link.old) buffer)) }
+        ensures group { (face self.new).group ≡ (face self.old).group }
         ensures err { OnErr result (Owns (face self.new).objects (L.state link.new)) }
         ensures cause { HasCause (L.faults link.old) (L.faults link.new) result }
     {
@@ -127,6 +130,7 @@ impl Core {
             (put_object (view (face self.old) (L.state link.old)) (Buffer buffer) (new_cells None))
             (put_object (outline_at (face self.old)) (Buffer buffer) (outline_of_size size))
             (IsQuietBut (face self.old) (L.state link.old) buffer)) }
+        ensures group { (face self.new).group ≡ (face self.old).group }
         ensures err { OnErr result (Owns (face self.new).objects (L.state link.new)) }
         ensures cause { HasCause (L.faults link.old) (L.faults link.new) result }
     {
@@ -146,6 +150,7 @@ impl Core {
         ensures moved { Moved (face self.new) (L.state link.new)
             (put_object (view (face self.old) (L.state link.old)) (Buffer buffer) (new_cells None))
             (put_object (outline_at (face self.old)) (Buffer buffer) None) (IsQuietBut (face self.old) (L.state link.old) buffer) }
+        ensures group { (face self.new).group ≡ (face self.old).group }
         ensures faults { L.faults link.old ≤ L.faults link.new }
     {
         end_comes_to();
@@ -167,6 +172,7 @@ impl Core {
         requires store { (size : ℕ) × HasStore (face self.old) buffer size }
         ensures moved { OnOk result (Moved (face self.new) (L.state link.new) (view (face self.old) (L.state link.old)) (outline_at (face self.old)) (IsQuiet (face self.old) (L.state link.old))) }
         ensures quiet { OnOk result (IsQuiet (face self.new) (L.state link.new) (Buffer buffer)) }
+        ensures group { (face self.new).group ≡ (face self.old).group }
         ensures err { OnErr result (Owns (face self.new).objects (L.state link.new)) }
         ensures cause { HasCause (L.faults link.old) (L.faults link.new) result }
     {

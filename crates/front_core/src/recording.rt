@@ -92,6 +92,7 @@ impl Core {
             (put_object (view (face self.old) (L.state link.old)) (Buffer buffer)
             (with_copy (view (face self.old) (L.state link.old) (Buffer buffer)) at len (recorded (face self.old) (L.state link.old) staging.handle.0) 0))
             (outline_at (face self.old)) (IsQuietBut (face self.old) (L.state link.old) buffer)) }
+        ensures group { (face self.new).group ≡ (face self.old).group }
         ensures err { OnErr result (Owns (face self.new).objects (L.state link.new)) }
         ensures cause { HasCause (L.faults link.old) (L.faults link.new) result }
     {
@@ -136,6 +137,7 @@ impl Core {
             (put_object (view (face self.old) (L.state link.now)) (Buffer dst)
             (with_copy (view (face self.old) (L.state link.now) (Buffer dst)) dst_at size (view (face self.old) (L.state link.now) (Buffer src)) src_at))
             (outline_at (face self.old)) (λ o. IsQuietBut (face self.old) (L.state link.now) dst o × (o ≢ Buffer src))) }
+        ensures group { (face self.new).group ≡ (face self.old).group }
         ensures err { OnErr result (Owns (face self.new).objects (L.state link.now)) }
         ensures memory { IfErr result (λ stop. stop ≡ Memory) }
     {
@@ -169,6 +171,7 @@ impl Core {
         ensures moved { OnOk result (Moved (face self.new) (L.state link.now) (view (face self.old) (L.state link.now)) (outline_at (face self.old)) (IsQuietBut (face self.old) (L.state link.now) buffer)) }
         ensures parted { OnOk result (IsParted (face self.new) serial.index buffer) }
         ensures behind { OnOk result (EndsWithBarrier (face self.new) serial.index buffer) }
+        ensures group { (face self.new).group ≡ (face self.old).group }
         ensures err { OnErr result (Owns (face self.new).objects (L.state link.now)) }
         ensures memory { IfErr result (λ stop. stop ≡ Memory) }
     {

@@ -88,6 +88,7 @@ impl Core {
             (put_object (view (face self.old) (L.state link.old)) (Buffer buffer) (recorded (face self.old) (L.state link.old) fresh.0))
             (put_object (outline_at (face self.old)) (Buffer buffer) (outline_of_size size))
             (IsQuietBut (face self.old) (L.state link.old) buffer)) }
+        ensures group { (face self.new).group ≡ (face self.old).group }
         ensures err { OnErr result (Owns (face self.new).objects (L.state link.new)) }
         ensures cause { HasCause (L.faults link.old) (L.faults link.new) result }
     {

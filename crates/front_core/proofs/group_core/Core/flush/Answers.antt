@@ -1,4 +1,4 @@
-use Rattle.std.proofs.Common.{◌≡◌, subst, ◌∙◌, refl, []}
+use Rattle.std.proofs.Common.{ap, ◌≡◌, subst, ◌∙◌, refl, []}
 use Rattle.std.specs.Prelude.{slice_set}
 use Rattle.vk_types.specs.declared.batches.Batch.{Batch}
 use Rattle.queue_serials.specs.Indexes.{with_last}
@@ -32,14 +32,16 @@ returns g c =
     let table : c.next-number.new.self ≡ with_last k.indexes c.args.index c.next-number.result = c.next-number.ensures.table in
     let left : c.take.new.self ≡ slice_set k.pending c.place-place.result [] = c.take.ensures.left in
     let core : d ≡ record k { indexes = with_last k.indexes c.args.index c.next-number.result; pending = slice_set k.pending c.place-place.result [] } = cc in
+    let group : (face d).group ≡ (face c.args.self.now).group = ap (λ (x : CoreParts). x.indexes.group) core ∙ ap (λ (x : CoreParts). x.indexes.group) c.self.view_is in
     elim c.match-enqueue.branch [
       | in-Ok w ↦
           let h : HasFlushed (face c.args.self.now) (face d) s t c.args.index = subst (λ x. HasFlushed (face x) (face d) s t c.args.index) c.self.view_is
           (c.flush_comes_to.ensures.batch k d s t c.args.index c.place-place.result batch here.holds here.own here.at next_ w.in-Ok.ensures.room c.next-number.ensures.last core w.in-Ok.ensures.ok) in
-          rw w.result-is (record { moved = h.moved; flushed = h.flushed; log = h.log; err = tt; cause = record { later = c.enqueue.ensures.faults; lost = λ e. absurd cc } })
+          rw w.result-is (record { moved = h.moved; flushed = h.flushed; group = group; log = h.log; err = tt; cause = record { later = c.enqueue.ensures.faults; lost = λ e. absurd cc } })
       | in-Err w ↦ rw w.result-is (record {
         moved = tt;
         flushed = tt;
+        group = group;
         log = tt;
         err = rw w.in-Err.ensures.err (c.flush_comes_to.ensures.owns k s here.holds);
         cause = record { later = c.enqueue.ensures.faults; lost = λ e. absurd cc };

@@ -1,6 +1,8 @@
-use Rattle.std.proofs.Common.{None}
+use Rattle.std.proofs.Common.{rules, ◌≡◌, ◌==◌, true, None, refl, subst}
 use Rattle.std.proofs.lemmas.Result.{on_ok_weaker}
-use Rattle.front_core.specs.Core.{face}
+use Rattle.front_model.specs.Face.{Buffer, put_object, outline_at, view}
+use Rattle.front_model.specs.Stands.{Moved}
+use Rattle.front_core.specs.Core.{face, IsQuietBut, outline_of_size, new_cells}
 use Rattle.front_core.proofs.BufferLaws.{ended_none, stored_anew}
 use Rattle.front_core.proofs.group_core.Core.store_blank.Goals as goal
 
@@ -13,3 +15,9 @@ returns-in-Ok-clause-moved g c =
     (stored_anew (face c.args.self.now) (face c.end.new.self) (face c.begin.new.self) (g.L.BackLink.state c.args.link.now) (g.L.BackLink.state c.end.new.link) (g.L.BackLink.state c.blank.new.link) (g.L.BackLink.state c.begin.new.link)
     c.args.buffer c.in-Ok.fresh.0 c.args.size None c.end.ensures.moved c.in-Ok.ensures.ok)
     c.begin.ensures.moved
+
+pub returns-then-size-eq0-clause-moved : goal.returns-then-size-eq0-clause-moved
+returns-then-size-eq0-clause-moved g c =
+    let none : (c.args.size == 0) ≡ true = search rules in
+    let outline_is : None ≡ outline_of_size c.args.size = rw none refl in
+    subst (λ v. Moved (face c.end.new.self) (g.L.BackLink.state c.end.new.link) (put_object (view (face c.args.self.now) (g.L.BackLink.state c.args.link.now)) (Buffer c.args.buffer) (new_cells None)) (put_object (outline_at (face c.args.self.now)) (Buffer c.args.buffer) v) (IsQuietBut (face c.args.self.now) (g.L.BackLink.state c.args.link.now) c.args.buffer)) outline_is c.end.ensures.moved

@@ -1,0 +1,199 @@
+-- Calls that write no cells keep what the front has, but for the buffers that stop existing.
+use Rattle.std.proofs.Common.{◌≡◌, ◌≢◌, ℕ, ℤ, ◌<◌, ◌==◌, Bool, true, false, cond, Option, Some, None, List, [], refl, sym, ◌∙◌, ap, subst, is_some, if◌then◌else◌}
+use Rattle.std.specs.Option.{option_map, option_map_or, option_and_then}
+use Rattle.std.specs.List.{list_any}
+use Rattle.std.proofs.lemmas.Bool.{false≢true, cases_Bool}
+use Rattle.cells.specs.Contents.{UNDEFINED, cell_at}
+use Rattle.vk_types.specs.declared.handles.Kind.{Kind}
+use Rattle.gl_calls.specs.declared.call.Call.{Call}
+use Rattle.gl_calls.specs.declared.call.Call.TheVariants as call
+use Rattle.gl_calls.specs.declared.reply.Reply.{Reply}
+use Rattle.gl_calls.specs.declared.words.AccessWord.{AccessWord}
+use Rattle.gl_calls.specs.declared.words.BufferTarget.{BufferTarget}
+use Rattle.gl_calls.specs.declared.words.BindTarget.TheVariants as targets
+use Rattle.gl_calls.specs.declared.words.ObjectKind.TheVariants as kinds
+use Rattle.tables.specs.Table.{Entries, entry, has}
+use Rattle.gl_model.specs.declared.state.Context.{Context}
+use Rattle.gl_model.specs.declared.state.GroupState.{GroupState}
+use Rattle.gl_model.specs.declared.state.Attachment.{Attachment}
+use Rattle.gl_model.specs.Bindings.{current_context}
+use Rattle.gl_model.specs.GroupEffect.{group_effect, swept}
+use Rattle.gl_model.specs.GroupModel.{GroupModel}
+use Rattle.gl_model.specs.Effect.{effect, store_of, empty_store}
+use Rattle.gl_model.specs.Reached.{changed_buffer, changed_images}
+use Rattle.gl_model.specs.Refusal.{refusal, gl_refusal}
+use Rattle.gl_model.specs.Sizes.{HasSizes}
+use Rattle.back_core.specs.Link.{Link}
+use Rattle.front_model.specs.Face.{Object, Buffer, Texture, Renderbuffer, Face, Outline, outline_at, view}
+use Rattle.front_model.specs.Stands.{IsQuiet}
+use Rattle.front_model.specs.Wanted.{buffer_kind, kind_wanted, wanted, AgreeWith, exists, IsMapped, IsAccepted, HasFreeNumbers}
+use Rattle.front_model.specs.Calls.{makes_storage}
+use Rattle.front_core.specs.Core.{CoreParts, face}
+use Rattle.front_core.specs.Ending.{is_ended, HasEnded}
+use Rattle.front_core.specs.Share.{Backs, IsStateOf, is_of_state}
+use Rattle.front_core.proofs.EndedBuffers.{gone_is}
+
+pub makes_none : (asked : Call) → is_of_state asked ≡ true → makes_storage asked ≡ false
+makes_none (call.BufferData target size usage payload) which = absurd (false≢true which)
+makes_none (call.TexStorage levels format width height) which = absurd (false≢true which)
+makes_none (call.RenderbufferStorage format width height) which = absurd (false≢true which)
+makes_none asked which = refl
+
+pub maps_none : (asked : Call) → is_of_state asked ≡ true → (target : BufferTarget) (offset len : ℤ) (access : AccessWord) → asked ≢ call.MapBufferRange target offset len access
+maps_none asked which target offset len access same = false≢true (sym (ap is_of_state same) ∙ which)
+
+-- What is to be seen
+
+-- what each call of OpenGL ES is known to have
+accepted_in : (state : GroupModel) (thread : ℕ) (asked : Call) → gl_refusal state.group (current_context state.group thread) asked ≡ None → refusal state.group thread asked ≡ None →
+    HasSizes state → swept state.group ≡ state.group → (context : Context) × IsAccepted state thread asked context
+accepted_in state thread asked in_context accepted sizes referred = by_context (current_context state.group thread) refl in_context
+  where
+    by_context : (o : Option Context) → current_context state.group thread ≡ o → gl_refusal state.group o asked ≡ None → (context : Context) × IsAccepted state thread asked context
+    by_context None is none = let bad : ⊥ = cc in absurd bad
+    by_context (Some context) is none = (context, record { current = is; accepted = accepted; sizes = sizes; referred = referred })
+
+abbrev pub no_number : Option ℕ
+no_number = None
+
+abbrev pub no_images : List Attachment
+no_images = []
+
+pub none_either : (o : Option Context) → option_map_or (λ (c : Context). no_number) o no_number ≡ no_number
+none_either None = refl
+none_either (Some c) = refl
+
+pub nil_either : (o : Option Context) → option_map_or (λ (c : Context). no_images) o no_images ≡ no_images
+nil_either None = refl
+nil_either (Some c) = refl
+
+-- what agrees with the state before agrees with the one after
+abbrev Keeps : GroupModel → ℕ → ℕ → Call → (Object → ℕ → ℕ) → Type 0
+Keeps state thread place asked seen = AgreeWith seen (wanted state) → AgreeWith seen (wanted (effect state thread asked place))
+
+abbrev pub KeepsFlush : Type 0
+KeepsFlush = (state : GroupModel) (thread place : ℕ) (context : Context) (target : BufferTarget) (offset len : ℤ) (seen : Object → ℕ → ℕ) → IsAccepted state thread (call.FlushMappedBufferRange target offset len) context → Keeps state thread place (call.FlushMappedBufferRange target offset len) seen
+
+abbrev pub KeepsUnmap : Type 0
+KeepsUnmap = (state : GroupModel) (thread place : ℕ) (context : Context) (target : BufferTarget) (seen : Object → ℕ → ℕ) → IsAccepted state thread (call.UnmapBuffer target) context → Keeps state thread place (call.UnmapBuffer target) seen
+
+abbrev pub KeepsDelete : Type 0
+KeepsDelete = (state : GroupModel) (thread place name : ℕ) (context : Context) (seen : Object → ℕ → ℕ) → IsAccepted state thread (call.Delete kinds.Buffer name) context → Keeps state thread place (call.Delete kinds.Buffer name) seen
+
+abbrev pub KeepsOthers : Type 0
+KeepsOthers = (state : GroupModel) (thread place : ℕ) (asked : Call) (seen : Object → ℕ → ℕ) → changed_buffer state.group thread asked ≡ None → changed_images state.group thread asked ≡ [] → Keeps state thread place asked seen
+
+pub record Keeping : Type 0 where
+  pub others : KeepsOthers
+  pub flush : KeepsFlush
+  pub unmap : KeepsUnmap
+  pub delete : KeepsDelete
+
+module _ (laws : Keeping) (state : GroupModel) (thread place : ℕ) (seen : Object → ℕ → ℕ) (sizes : HasSizes state) (referred : swept state.group ≡ state.group) where
+  quiet : (asked : Call) → changed_buffer state.group thread asked ≡ None → changed_images state.group thread asked ≡ [] → Keeps state thread place asked seen
+  quiet asked = laws.others state thread place asked seen
+
+  pub still_agrees : (asked : Call) → is_of_state asked ≡ true → refusal state.group thread asked ≡ None → Keeps state thread place asked seen
+  still_agrees (call.FlushMappedBufferRange target offset len) which accepted =
+      let known = accepted_in state thread (call.FlushMappedBufferRange target offset len) accepted accepted sizes referred in
+      laws.flush state thread place known.0 target offset len seen known.1
+  still_agrees (call.UnmapBuffer target) which accepted =
+      let known = accepted_in state thread (call.UnmapBuffer target) accepted accepted sizes referred in
+      laws.unmap state thread place known.0 target seen known.1
+  still_agrees (call.Delete kinds.Buffer name) which accepted =
+      let known = accepted_in state thread (call.Delete kinds.Buffer name) accepted accepted sizes referred in
+      laws.delete state thread place name known.0 seen known.1
+  still_agrees (call.CreateContext number) which accepted = quiet (call.CreateContext number) (none_either (current_context state.group thread)) (nil_either (current_context state.group thread))
+  still_agrees (call.DestroyContext number) which accepted = quiet (call.DestroyContext number) (none_either (current_context state.group thread)) (nil_either (current_context state.group thread))
+  still_agrees (call.MakeCurrent number) which accepted = quiet (call.MakeCurrent number) (none_either (current_context state.group thread)) (nil_either (current_context state.group thread))
+  still_agrees call.EglGetError which accepted = quiet call.EglGetError (none_either (current_context state.group thread)) (nil_either (current_context state.group thread))
+  still_agrees call.GetError which accepted = quiet call.GetError (none_either (current_context state.group thread)) (nil_either (current_context state.group thread))
+  still_agrees (call.GetInteger limit) which accepted = quiet (call.GetInteger limit) (none_either (current_context state.group thread)) (nil_either (current_context state.group thread))
+  still_agrees (call.Gen kinds.Buffer count) which accepted = quiet (call.Gen kinds.Buffer count) (none_either (current_context state.group thread)) (nil_either (current_context state.group thread))
+  still_agrees (call.Bind (targets.Buffer target) name) which accepted = quiet (call.Bind (targets.Buffer target) name) (none_either (current_context state.group thread)) (nil_either (current_context state.group thread))
+  still_agrees (call.PixelStore parameter value) which accepted = quiet (call.PixelStore parameter value) (none_either (current_context state.group thread)) (nil_either (current_context state.group thread))
+  still_agrees asked which accepted = absurd (false≢true which)
+
+-- The stores, and what is mapped
+
+abbrev pub KeepsStores : Type 0
+KeepsStores = (state : GroupModel) (thread : ℕ) (asked : Call) → HasSizes state → HasFreeNumbers state.group → makes_storage asked ≡ false → (o : Object) →
+    kind_wanted (group_effect state.group thread asked) o ≡ (if exists (group_effect state.group thread asked) o then kind_wanted state.group o else None)
+
+abbrev pub KeepsMaps : Type 0
+KeepsMaps = (state : GroupModel) (thread : ℕ) (asked : Call) → HasSizes state →
+    ((target : BufferTarget) (offset len : ℤ) (access : AccessWord) → asked ≢ call.MapBufferRange target offset len access) → (b : ℕ) →
+    IsMapped (group_effect state.group thread asked) b → IsMapped state.group b
+
+-- the kind of an object's store
+abbrev kind_of : Option Outline → Option Kind
+kind_of o = option_map (λ v. v.kind) o
+
+-- what has no store in a state has no outline
+no_kind : (o : Option Outline) → kind_of o ≡ None → o ≡ None
+no_kind None none = refl
+no_kind (Some v) none = let bad : ⊥ = cc in absurd bad
+
+-- a buffer that does not exist is to have no store
+no_buffer : (group : GroupState) (b : ℕ) → has b group.buffers ≡ false → kind_wanted group (Buffer b) ≡ None
+no_buffer group b absent = by_entry (λ f. buffer_kind f.size) (entry b group.buffers) absent
+  where
+    by_entry : {V : Type 0} (look : V → Option Kind) (o : Option V) → is_some o ≡ false → option_and_then look o ≡ None
+    by_entry look None none = refl
+    by_entry look (Some v) none = absurd (false≢true (sym none))
+
+module _ (c : CoreParts) (g : Face) (s t : Link) (group after : GroupState) (thread : ℕ) (ended : List ℕ) where
+  -- each store is there that the state after is to have
+  pub kinds_left : ((b : ℕ) → list_any (λ d. b == d) ended ≡ cond (has b after.buffers) false (has b group.buffers)) →
+      ((o : Object) → kind_wanted after o ≡ (if exists after o then kind_wanted group o else None)) →
+      ((o : Object) → option_map (λ v. v.kind) (outline_at (face c) o) ≡ kind_wanted group o) → HasEnded (face c) g s t ended →
+      (o : Object) → option_map (λ v. v.kind) (outline_at g o) ≡ kind_wanted after o
+  kinds_left ended_is kept kinds has_ended (Buffer b) =
+      ap kind_of (has_ended.outlines_are (Buffer b) ∙ ap (λ e. cond e None (outline_at (face c) (Buffer b))) (ended_is b))
+      ∙ by_left (has b after.buffers) (has b group.buffers) refl
+      ∙ sym (kept (Buffer b))
+    where
+      by_left : (l w : Bool) → has b group.buffers ≡ w → kind_of (cond (cond l false w) None (outline_at (face c) (Buffer b))) ≡ (if l then kind_wanted group (Buffer b) else None)
+      by_left true w was = kinds (Buffer b)
+      by_left false true was = refl
+      by_left false false was = kinds (Buffer b) ∙ no_buffer group b was
+  kinds_left ended_is kept kinds has_ended (Texture n) = ap kind_of (has_ended.outlines_are (Texture n)) ∙ nothing (exists after (Texture n)) ∙ sym (kept (Texture n))
+    where
+      nothing : (l : Bool) → None ≡ (if l then kind_wanted group (Texture n) else None)
+      nothing true = kinds (Texture n)
+      nothing false = refl
+  kinds_left ended_is kept kinds has_ended (Renderbuffer n) = ap kind_of (has_ended.outlines_are (Renderbuffer n)) ∙ nothing (exists after (Renderbuffer n)) ∙ sym (kept (Renderbuffer n))
+    where
+      nothing : (l : Bool) → None ≡ (if l then kind_wanted group (Renderbuffer n) else None)
+      nothing true = kinds (Renderbuffer n)
+      nothing false = refl
+
+  -- a mapped buffer is quiet still
+  pub maps_left : ((b : ℕ) → list_any (λ d. b == d) ended ≡ cond (has b after.buffers) false (has b group.buffers)) →
+      ((b : ℕ) → IsMapped after b → IsMapped group b) → ((b : ℕ) → IsMapped group b → IsQuiet (face c) s (Buffer b)) → HasEnded (face c) g s t ended →
+      (b : ℕ) → IsMapped after b → IsQuiet g t (Buffer b)
+  maps_left ended_is kept quiet has_ended b mapped =
+      has_ended.still (Buffer b) (ended_is b ∙ ap (λ l. cond l false (has b group.buffers)) (ap is_some mapped.is)) (quiet b (kept b mapped))
+
+  -- what is seen of the objects that are left agrees still, and nothing is to be seen of those that ended
+  pub agrees_left : (state : GroupModel) → state.group ≡ after → HasSizes state → ((b : ℕ) → list_any (λ d. b == d) ended ≡ cond (has b after.buffers) false (has b group.buffers)) →
+      HasEnded (face c) g s t ended → AgreeWith (view (face c) s) (wanted state) → AgreeWith (view g t) (wanted state)
+  agrees_left state is sizes ended_is has_ended agree (Buffer b) p below =
+      has_ended.view_is (Buffer b) p ∙ by_ended (list_any (λ d. b == d) ended) refl
+    where
+      absent : (l w : Bool) → cond l false w ≡ true → l ≡ false
+      absent true w e = absurd (false≢true e)
+      absent false w e = refl
+
+      none_there : {V : Type 0} (o : Option V) → is_some o ≡ false → o ≡ None
+      none_there None e = refl
+      none_there (Some v) e = absurd (false≢true (sym e))
+
+      by_ended : (e : Bool) → list_any (λ d. b == d) ended ≡ e → cond e UNDEFINED (view (face c) s (Buffer b) p) ≡ wanted state (Buffer b) p
+      by_ended false e = agree (Buffer b) p below
+      by_ended true e =
+          let out : has b after.buffers ≡ false = absent (has b after.buffers) (has b group.buffers) (sym (ended_is b) ∙ e) in
+          let gone : entry b state.group.buffers ≡ None = none_there (entry b state.group.buffers) (ap (λ (x : GroupState). has b x.buffers) is ∙ out) in
+          sym (ap (λ x. cell_at x.cells p) (sizes.gone b gone))
+  agrees_left state is sizes ended_is has_ended agree (Texture n) p below = has_ended.view_is (Texture n) p ∙ agree (Texture n) p below
+  agrees_left state is sizes ended_is has_ended agree (Renderbuffer n) p below = has_ended.view_is (Renderbuffer n) p ∙ agree (Renderbuffer n) p below
