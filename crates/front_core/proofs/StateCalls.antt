@@ -1,25 +1,24 @@
 -- Calls that write no cells keep what the front has, but for the buffers that stop existing.
-use Rattle.std.proofs.Common.{◌≡◌, ◌≢◌, ℕ, ℤ, ◌<◌, ◌==◌, Bool, true, false, cond, Option, Some, None, List, [], refl, sym, ◌∙◌, ap, subst, is_some, if◌then◌else◌}
+use Rattle.std.proofs.Common.{◌≡◌, ◌≢◌, ℕ, ℤ, ◌==◌, Bool, true, false, cond, Option, Some, None, List, [], refl, sym, ◌∙◌, ap, is_some, if◌then◌else◌}
 use Rattle.std.specs.Option.{option_map, option_map_or, option_and_then}
 use Rattle.std.specs.List.{list_any}
-use Rattle.std.proofs.lemmas.Bool.{false≢true, cases_Bool}
+use Rattle.std.proofs.lemmas.Bool.{false≢true}
 use Rattle.cells.specs.Contents.{UNDEFINED, cell_at}
 use Rattle.vk_types.specs.declared.handles.Kind.{Kind}
 use Rattle.gl_calls.specs.declared.call.Call.{Call}
 use Rattle.gl_calls.specs.declared.call.Call.TheVariants as call
-use Rattle.gl_calls.specs.declared.reply.Reply.{Reply}
 use Rattle.gl_calls.specs.declared.words.AccessWord.{AccessWord}
 use Rattle.gl_calls.specs.declared.words.BufferTarget.{BufferTarget}
 use Rattle.gl_calls.specs.declared.words.BindTarget.TheVariants as targets
 use Rattle.gl_calls.specs.declared.words.ObjectKind.TheVariants as kinds
-use Rattle.tables.specs.Table.{Entries, entry, has}
+use Rattle.tables.specs.Table.{entry, has}
 use Rattle.gl_model.specs.declared.state.Context.{Context}
 use Rattle.gl_model.specs.declared.state.GroupState.{GroupState}
 use Rattle.gl_model.specs.declared.state.Attachment.{Attachment}
 use Rattle.gl_model.specs.Bindings.{current_context}
 use Rattle.gl_model.specs.GroupEffect.{group_effect, swept}
 use Rattle.gl_model.specs.GroupModel.{GroupModel}
-use Rattle.gl_model.specs.Effect.{effect, store_of, empty_store}
+use Rattle.gl_model.specs.Effect.{effect}
 use Rattle.gl_model.specs.Reached.{changed_buffer, changed_images}
 use Rattle.gl_model.specs.Refusal.{refusal, gl_refusal}
 use Rattle.gl_model.specs.Sizes.{HasSizes}
@@ -29,9 +28,8 @@ use Rattle.front_model.specs.Stands.{IsQuiet}
 use Rattle.front_model.specs.Wanted.{buffer_kind, kind_wanted, wanted, AgreeWith, exists, IsMapped, IsAccepted, HasFreeNumbers}
 use Rattle.front_model.specs.Calls.{makes_storage}
 use Rattle.front_core.specs.Core.{CoreParts, face}
-use Rattle.front_core.specs.Ending.{is_ended, HasEnded}
-use Rattle.front_core.specs.Share.{Backs, IsStateOf, is_of_state}
-use Rattle.front_core.proofs.EndedBuffers.{gone_is}
+use Rattle.front_core.specs.Ending.{HasEnded}
+use Rattle.front_core.specs.Share.{is_of_state}
 
 pub makes_none : (asked : Call) → is_of_state asked ≡ true → makes_storage asked ≡ false
 makes_none (call.BufferData target size usage payload) which = absurd (false≢true which)

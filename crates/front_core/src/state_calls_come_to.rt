@@ -1,5 +1,5 @@
 // What a call that writes no cells comes to, on plain values.
-ghost use Rattle.std.specs.Prelude.{◌≡◌, ℕ, true, false, None, Some, List};
+ghost use Rattle.std.specs.Prelude.{◌≡◌, ℕ, true, Some, List};
 ghost use Rattle.gl_calls.specs.declared.call.Call.{Call};
 ghost use Rattle.gl_calls.specs.declared.reply.Reply.{Reply};
 ghost use Rattle.gl_model.specs.declared.state.GroupState.{GroupState};

@@ -1,4 +1,4 @@
-use Rattle.std.proofs.Common.{◌≡◌, ◌≤◌, ◌+◌, ℕ, List, [], ◌∷◌, ◌++◌, length, sym, subst, rules, arith, refl}
+use Rattle.std.proofs.Common.{sym, subst, rules, arith}
 use Rattle.std.specs.Prelude.{take, slice_index_or}
 use Rattle.std.proofs.lemmas.List.{take_more, take_all}
 use Rattle.front_core.specs.Core.{face}
@@ -15,8 +15,8 @@ end-requires g c = record { holds = c.loop-buffer.invariant.ended.holds }
 pub loop-buffer-preserved : goal.loop-buffer-preserved
 loop-buffer-preserved g c = record {
   ended = subst (λ xs. HasEnded (face c.args.self.now) (face c.end.new.self) (g.L.BackLink.state c.args.link.now) (g.L.BackLink.state c.end.new.link) xs)
-    (sym (take_more c.args.buffers.now c.loop-buffer.buffer-index 0 c.loop-buffer-test.true))
-    (one_more_ended (face c.args.self.now) (face c.loop-buffer.self) (face c.end.new.self) (g.L.BackLink.state c.args.link.now) (g.L.BackLink.state c.loop-buffer.link) (g.L.BackLink.state c.end.new.link)
+      (sym (take_more c.args.buffers.now c.loop-buffer.buffer-index 0 c.loop-buffer-test.true))
+      (one_more_ended (face c.args.self.now) (face c.loop-buffer.self) (face c.end.new.self) (g.L.BackLink.state c.args.link.now) (g.L.BackLink.state c.loop-buffer.link) (g.L.BackLink.state c.end.new.link)
       (take c.loop-buffer.buffer-index c.args.buffers.now) (slice_index_or c.args.buffers.now c.loop-buffer.buffer-index 0) c.loop-buffer.invariant.ended c.end.ensures.moved c.end.ensures.group);
   faults = grind (arith, c.loop-buffer.invariant.faults, c.end.ensures.faults);
 }
