@@ -12,7 +12,7 @@ use Rattle.front_model.specs.Stands.{no_hands}
 use Rattle.front_model.specs.Wanted.{kind_wanted, exists, IsMapped, HasFreeNumbers}
 use Rattle.front_core.specs.Core.{face}
 use Rattle.front_core.proofs.EndedBuffers.{gone_is}
-use Rattle.front_core.proofs.StateCalls.{Keeping, makes_none, maps_none, still_agrees, kinds_left, maps_left, agrees_left}
+use Rattle.front_core.proofs.StateCalls.{Keeping, has_reply, makes_none, maps_none, still_agrees, kinds_left, maps_left, agrees_left}
 use Rattle.front_core.proofs.state_calls_come_to.state_calls_come_to.Goals as goal
 
 pub returns : goal.returns
@@ -45,5 +45,6 @@ returns r = record {
             (still_agrees keeping state thread place (view (face c) s) is_state.sizes referred asked which accepted agree);
         answers = λ state is_state agree. r.replies_are_answers.ensures state thread asked answer (ap (λ (x : GroupState). reply_of x thread asked) is_state.group_is ∙ told);
       };
+  replies = has_reply;
   owns = λ f s h. r.steps_may.ensures.owns f no_hands s h;
 }

@@ -18,5 +18,5 @@ returns-in-Some-clause-done g c =
     c.requires.which c.requires.may (sym c.in-Ok.ensures.reply ∙ c.in-Some.is) ended_is
     (subst (λ xs. HasEnded (face c.args.self.now.core) (face c.end_all.new.self) (g.L.BackLink.state c.args.link.now) (g.L.BackLink.state c.end_all.new.link) xs) c.as_slice.ensures.value c.end_all.ensures.ended))
 
-pub returns-clause-err : goal.returns-clause-err
-returns-clause-err g c = c.state_calls_come_to.ensures.owns (face c.args.self.now.core) (g.L.BackLink.state c.args.link.now) c.requires.may.backs.holds
+pub returns-in-Err-clause-err : goal.returns-in-Err-clause-err
+returns-in-Err-clause-err g c = c.state_calls_come_to.ensures.owns (face c.args.self.now.core) (g.L.BackLink.state c.args.link.now) c.requires.may.backs.holds
