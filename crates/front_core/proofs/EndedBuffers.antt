@@ -1,18 +1,17 @@
 -- Buffers that are ended one after another, and which ones a change of a table ends.
-use Rattle.std.proofs.Common.{◌≡◌, ◌≢◌, ℕ, ◌==◌, ◌||◌, ◌&&◌, not, Bool, true, false, cond, Option, Some, None, List, [], ◌∷◌, ◌++◌, refl, sym, ◌∙◌, ap, subst, arith, if◌then◌else◌, is_some}
+use Rattle.std.proofs.Common.{◌≡◌, ◌≢◌, ℕ, ◌==◌, ◌||◌, not, Bool, true, false, cond, Option, Some, None, List, [], ◌∷◌, ◌++◌, refl, sym, ◌∙◌, ap, is_some}
 use Rattle.std.specs.List.{list_any}
 use Rattle.std.specs.Map.{keys_of}
 use Rattle.std.proofs.lemmas.Bool.{false≢true}
 use Rattle.std.proofs.lemmas.List.Folds.{list_any-append}
-use Rattle.std.proofs.lemmas.Grind.{common_steps}
 use Rattle.cells.specs.Contents.{UNDEFINED}
 use Rattle.tables.specs.Table.{Entries, entry, has, only}
 use Rattle.gl_model.proofs.TableLaws.{entry-only, is_at-nat_cmp}
 use Rattle.gl_state.specs.Ended.{gone}
 use Rattle.back_core.specs.Link.{Link}
 use Rattle.front_model.specs.Face.{Object, Buffer, Texture, Renderbuffer, Face, Outline, put_object, outline_at, view, same_object}
-use Rattle.front_model.specs.Stands.{Holds, Moved, no_hands, IsQuiet}
-use Rattle.front_model.proofs.Base.{same_object-self, same_object-true}
+use Rattle.front_model.specs.Stands.{Holds, Moved, no_hands}
+use Rattle.front_model.proofs.Base.{same_object-self}
 use Rattle.front_core.specs.Core.{IsQuietBut, new_cells}
 use Rattle.front_core.specs.Ending.{is_ended, HasEnded}
 

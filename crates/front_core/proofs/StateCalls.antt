@@ -1,25 +1,30 @@
 -- Calls that write no cells keep what the front has, but for the buffers that stop existing.
-use Rattle.std.proofs.Common.{◌≡◌, ◌≢◌, ℕ, ℤ, ◌<◌, ◌==◌, Bool, true, false, cond, Option, Some, None, List, [], refl, sym, ◌∙◌, ap, subst, is_some, if◌then◌else◌}
+use Rattle.std.proofs.Common.{◌≡◌, ◌≢◌, ℕ, ℤ, ◌==◌, Bool, true, false, cond, Option, Some, None, List, [], refl, sym, ◌∙◌, ap, is_some, if◌then◌else◌}
+use Rattle.std.specs.Prelude.{unsigned_abs}
 use Rattle.std.specs.Option.{option_map, option_map_or, option_and_then}
 use Rattle.std.specs.List.{list_any}
-use Rattle.std.proofs.lemmas.Bool.{false≢true, cases_Bool}
+use Rattle.std.proofs.lemmas.Bool.{false≢true}
 use Rattle.cells.specs.Contents.{UNDEFINED, cell_at}
 use Rattle.vk_types.specs.declared.handles.Kind.{Kind}
 use Rattle.gl_calls.specs.declared.call.Call.{Call}
 use Rattle.gl_calls.specs.declared.call.Call.TheVariants as call
 use Rattle.gl_calls.specs.declared.reply.Reply.{Reply}
+use Rattle.gl_calls.specs.declared.reply.Reply.TheVariants as reply
+use Rattle.gl_calls.specs.Words.{limit_of}
+use Rattle.gl_model.specs.Legal.{generated_names}
+use Rattle.gl_state.specs.Applied.{reply_of}
 use Rattle.gl_calls.specs.declared.words.AccessWord.{AccessWord}
 use Rattle.gl_calls.specs.declared.words.BufferTarget.{BufferTarget}
 use Rattle.gl_calls.specs.declared.words.BindTarget.TheVariants as targets
 use Rattle.gl_calls.specs.declared.words.ObjectKind.TheVariants as kinds
-use Rattle.tables.specs.Table.{Entries, entry, has}
+use Rattle.tables.specs.Table.{entry, has}
 use Rattle.gl_model.specs.declared.state.Context.{Context}
 use Rattle.gl_model.specs.declared.state.GroupState.{GroupState}
 use Rattle.gl_model.specs.declared.state.Attachment.{Attachment}
 use Rattle.gl_model.specs.Bindings.{current_context}
 use Rattle.gl_model.specs.GroupEffect.{group_effect, swept}
 use Rattle.gl_model.specs.GroupModel.{GroupModel}
-use Rattle.gl_model.specs.Effect.{effect, store_of, empty_store}
+use Rattle.gl_model.specs.Effect.{effect}
 use Rattle.gl_model.specs.Reached.{changed_buffer, changed_images}
 use Rattle.gl_model.specs.Refusal.{refusal, gl_refusal}
 use Rattle.gl_model.specs.Sizes.{HasSizes}
@@ -29,9 +34,8 @@ use Rattle.front_model.specs.Stands.{IsQuiet}
 use Rattle.front_model.specs.Wanted.{buffer_kind, kind_wanted, wanted, AgreeWith, exists, IsMapped, IsAccepted, HasFreeNumbers}
 use Rattle.front_model.specs.Calls.{makes_storage}
 use Rattle.front_core.specs.Core.{CoreParts, face}
-use Rattle.front_core.specs.Ending.{is_ended, HasEnded}
-use Rattle.front_core.specs.Share.{Backs, IsStateOf, is_of_state}
-use Rattle.front_core.proofs.EndedBuffers.{gone_is}
+use Rattle.front_core.specs.Ending.{HasEnded}
+use Rattle.front_core.specs.Share.{is_of_state}
 
 pub makes_none : (asked : Call) → is_of_state asked ≡ true → makes_storage asked ≡ false
 makes_none (call.BufferData target size usage payload) which = absurd (false≢true which)
@@ -41,6 +45,33 @@ makes_none asked which = refl
 
 pub maps_none : (asked : Call) → is_of_state asked ≡ true → (target : BufferTarget) (offset len : ℤ) (access : AccessWord) → asked ≢ call.MapBufferRange target offset len access
 maps_none asked which target offset len access same = false≢true (sym (ap is_of_state same) ∙ which)
+
+-- What is answered
+
+some_reply : (o : Option Context) (answer : Context → Reply) → o ≢ None → option_and_then (λ context. Some (answer context)) o ≢ None
+some_reply None answer there none = there refl
+some_reply (Some context) answer there none = let bad : ⊥ = cc in bad
+
+has_context : (group : GroupState) (o : Option Context) (asked : Call) → gl_refusal group o asked ≡ None → o ≢ None
+has_context group None asked accepted none = let bad : ⊥ = cc in bad
+has_context group (Some context) asked accepted none = let bad : ⊥ = cc in bad
+
+-- a call that writes no cells has a reply
+pub has_reply : (group : GroupState) (thread : ℕ) (asked : Call) → is_of_state asked ≡ true → refusal group thread asked ≡ None → reply_of group thread asked ≢ None
+has_reply group thread (call.CreateContext number) which accepted none = let bad : ⊥ = cc in bad
+has_reply group thread (call.DestroyContext number) which accepted none = let bad : ⊥ = cc in bad
+has_reply group thread (call.MakeCurrent number) which accepted none = let bad : ⊥ = cc in bad
+has_reply group thread call.EglGetError which accepted none = let bad : ⊥ = cc in bad
+has_reply group thread call.GetError which accepted none = some_reply (current_context group thread) (λ context. reply.GlFlag context.error) (has_context group (current_context group thread) call.GetError accepted) none
+has_reply group thread (call.GetInteger limit) which accepted none = some_reply (current_context group thread) (λ context. reply.Limit (limit_of limit)) (has_context group (current_context group thread) (call.GetInteger limit) accepted) none
+has_reply group thread (call.Gen kinds.Buffer count) which accepted none =
+    some_reply (current_context group thread) (λ context. reply.Names (generated_names group context kinds.Buffer (unsigned_abs count))) (has_context group (current_context group thread) (call.Gen kinds.Buffer count) accepted) none
+has_reply group thread (call.Delete kinds.Buffer name) which accepted none = some_reply (current_context group thread) (λ context. reply.Done) (has_context group (current_context group thread) (call.Delete kinds.Buffer name) accepted) none
+has_reply group thread (call.Bind (targets.Buffer target) name) which accepted none = some_reply (current_context group thread) (λ context. reply.Done) (has_context group (current_context group thread) (call.Bind (targets.Buffer target) name) accepted) none
+has_reply group thread (call.FlushMappedBufferRange target offset len) which accepted none = some_reply (current_context group thread) (λ context. reply.Done) (has_context group (current_context group thread) (call.FlushMappedBufferRange target offset len) accepted) none
+has_reply group thread (call.UnmapBuffer target) which accepted none = some_reply (current_context group thread) (λ context. reply.True) (has_context group (current_context group thread) (call.UnmapBuffer target) accepted) none
+has_reply group thread (call.PixelStore parameter value) which accepted none = some_reply (current_context group thread) (λ context. reply.Done) (has_context group (current_context group thread) (call.PixelStore parameter value) accepted) none
+has_reply group thread asked which accepted none = absurd (false≢true which)
 
 -- What is to be seen
 

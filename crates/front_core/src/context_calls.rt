@@ -59,12 +59,7 @@ impl Share {
     }
 
     /// Hands what the context that a thread gives up recorded to the back.
-    fn switch<L: BackLink>(
-        &mut self,
-        link: &mut L,
-        thread: u32,
-        number: u32,
-    ) -> Result<(), Stop>
+    fn switch<L: BackLink>(&mut self, link: &mut L, thread: u32, number: u32) -> Result<(), Stop>
         requires indexes { HaveIndexes self.old.state.contexts self.old.serials (face self.old.core).group }
         requires holds { Holds (face self.old.core) no_hands (L.state link.old) }
         ensures moved { OnOk result (Moved (face self.new.core) (L.state link.new) (view (face self.old.core) (L.state link.old)) (outline_at (face self.old.core)) (IsQuiet (face self.old.core) (L.state link.old))) }

@@ -1,7 +1,6 @@
 //! The front of one share group: a call comes in and a reply goes out.
 #![tactic(auto)]
 
-mod buffer_calls;
 mod buffers;
 mod calls_come_to;
 mod comes_to;

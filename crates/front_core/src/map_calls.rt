@@ -1,7 +1,6 @@
 // The calls on maps of buffers.
-ghost use Rattle.std.specs.Prelude.{◌≡◌, ℕ, Some, None, IfOk, OnOk, OnErr, length};
+ghost use Rattle.std.specs.Prelude.{◌≡◌, IfOk, OnErr};
 ghost use Rattle.vk_device.specs.Faults.{HasCause};
-ghost use Rattle.back_core.specs.Needs.{IsOfGroup};
 ghost use Rattle.front_model.specs.Stands.{Owns};
 ghost use Rattle.front_core.specs.Core.{face};
 ghost use Rattle.front_core.specs.Share.{MayCall, IsCarriedOut};
@@ -10,42 +9,10 @@ use crate::calls_come_to::map_calls_come_to;
 use crate::share::Share;
 use back_core::BackLink;
 use cells::Bytes;
-use gl_calls::{AccessWord, BufferTarget, Call, Payload, Reply};
-use gl_state::map_buffer_range;
-use vk_types::{SerialIndex, Stop};
+use gl_calls::{BufferTarget, Call, Payload, Reply};
+use vk_types::Stop;
 
 impl Share {
-    /// Maps a range of the bound buffer (OpenGL ES 3.0.6, Mapping and Unmapping Buffer Data), once the host may use the buffer.
-    pub(crate) fn map_buffer_range<L: BackLink>(
-        &mut self,
-        link: &mut L,
-        thread: u32,
-        index: SerialIndex,
-        target: BufferTarget,
-        offset: i64,
-        length: i64,
-        access: AccessWord,
-    ) -> Result<Reply, Stop>
-        requires group { IsOfGroup (face self.old.core).group index }
-        requires may { MayCall (face self.old.core) (L.state link.old) self.old.state thread (Call.MapBufferRange target offset length access) }
-        ensures done { IfOk result (λ reply. IsCarriedOut (face self.old.core) (face self.new.core) (L.state link.old) (L.state link.new) self.old.state self.new.state thread (Call.MapBufferRange target offset length access) reply) }
-        ensures serials { self.new.serials ≡ self.old.serials }
-        ensures group { (face self.new.core).group ≡ (face self.old.core).group }
-        ensures err { OnErr result (Owns (face self.new.core).objects (L.state link.new)) }
-        ensures cause { HasCause (L.faults link.old) (L.faults link.new) result }
-    {
-        let Some((buffer, _)) = self.bound(thread, target) else {
-            unreachable!();
-        };
-        match self.core.settle(link, index, buffer) {
-            Ok(()) => {
-                map_buffer_range(&mut self.state, thread, target, offset, length, access);
-                Ok(Reply::Done)
-            }
-            Err(stop) => Err(stop),
-        }
-    }
-
     /// Reads a range of the map of the bound buffer.
     pub(crate) fn map_read<L: BackLink>(
         &mut self,

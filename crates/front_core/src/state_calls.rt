@@ -54,7 +54,7 @@ impl Share {
                 self.core.end_all(link, ended.buffers.as_slice());
                 match reply {
                     Some(reply) => Ok(reply),
-                    None => Err(Stop::Memory),
+                    None => unreachable!(),
                 }
             }
             Err(_) => Err(Stop::Memory),

@@ -1,9 +1,10 @@
 // What a call that writes no cells comes to, on plain values.
-ghost use Rattle.std.specs.Prelude.{◌≡◌, ℕ, true, false, None, Some, List};
+ghost use Rattle.std.specs.Prelude.{◌≡◌, ◌≢◌, ℕ, true, Some, None, List};
 ghost use Rattle.gl_calls.specs.declared.call.Call.{Call};
 ghost use Rattle.gl_calls.specs.declared.reply.Reply.{Reply};
 ghost use Rattle.gl_model.specs.declared.state.GroupState.{GroupState};
 ghost use Rattle.gl_model.specs.GroupEffect.{group_effect};
+ghost use Rattle.gl_model.specs.Refusal.{refusal};
 ghost use Rattle.gl_state.specs.Applied.{reply_of};
 ghost use Rattle.gl_state.specs.Ended.{gone};
 ghost use Rattle.back_core.specs.Link.{Link};
@@ -23,6 +24,8 @@ pub(crate) fn state_calls_come_to()
         is_of_state asked ≡ true → MayCall (face c) s group thread asked → reply_of group thread asked ≡ Some answer →
         ended ≡ gone group.buffers (group_effect group thread asked).buffers → HasEnded (face c) g s t ended →
         IsCarriedOut (face c) g s t group (group_effect group thread asked) thread asked answer }
+    ensures replies { (group : GroupState) (thread : ℕ) (asked : Call) → is_of_state asked ≡ true → refusal group thread asked ≡ None →
+        reply_of group thread asked ≢ None }
     ensures owns { (f : Face) (s : Link) → Holds f no_hands s → Owns f.objects s }
 {
     steps_may();

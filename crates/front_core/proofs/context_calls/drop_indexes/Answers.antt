@@ -1,4 +1,4 @@
-use Rattle.std.proofs.Common.{◌≡◌, ◌∙◌, ℕ, rules, tests}
+use Rattle.std.proofs.Common.{◌∙◌, ℕ, rules, tests}
 use Rattle.tables.specs.Table.{has}
 use Rattle.gl_state.proofs.Retained.{filter_map_from_retain}
 use Rattle.front_core.proofs.ContextIndexes.{same_entries}

@@ -1,4 +1,4 @@
-use Rattle.std.proofs.Common.{◌≡◌, ℕ, sym, ◌∙◌, ap, subst, refl}
+use Rattle.std.proofs.Common.{◌∙◌, ap, subst}
 use Rattle.tables.specs.Table.{with_entry}
 use Rattle.gl_model.specs.declared.state.GroupState.{GroupState}
 use Rattle.gl_model.specs.GroupState.{new_context}

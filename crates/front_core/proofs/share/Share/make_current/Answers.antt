@@ -1,4 +1,4 @@
-use Rattle.std.proofs.Common.{◌≡◌, ℕ, true, sym, ◌∙◌, ap, subst, refl}
+use Rattle.std.proofs.Common.{◌≡◌, sym, ◌∙◌, ap, subst, refl}
 use Rattle.gl_calls.specs.declared.call.Call.TheVariants as call
 use Rattle.tables.specs.Table.{has, only}
 use Rattle.gl_model.specs.declared.state.GroupState.{GroupState}
@@ -19,19 +19,19 @@ returns-in-Ok-state_call-clause-done g c =
     carried_from (face c.args.self.now.core) (face c.switch.new.self.core) (face c.state_call.new.self.core) (g.L.BackLink.state c.args.link.now) (g.L.BackLink.state c.switch.new.link) (g.L.BackLink.state c.state_call.new.link)
     c.args.self.now.state c.state_call.new.self.state c.args.thread (call.MakeCurrent c.args.number) c.in-Ok-state_call.reply c.in-Ok.ensures.moved.view_is
     (subst (λ (x : GroupState). IsCarriedOut (face c.switch.new.self.core) (face c.state_call.new.self.core) (g.L.BackLink.state c.switch.new.link) (g.L.BackLink.state c.state_call.new.link) x c.state_call.new.self.state c.args.thread (call.MakeCurrent c.args.number) c.in-Ok-state_call.reply)
-      c.switch.ensures.state c.in-Ok-state_call.ensures.done)
+    c.switch.ensures.state c.in-Ok-state_call.ensures.done)
 
 pub returns-in-Ok-state_call-clause-indexes : goal.returns-in-Ok-state_call-clause-indexes
 returns-in-Ok-state_call-clause-indexes g c =
     let before : GroupState = c.args.self.now.state in
     let after : GroupState = c.state_call.new.self.state in
     let kept : HaveIndexes before.contexts c.state_call.new.self.serials c.state_call.new.self.core.indexes.group
-      = indexes_of_equal before.contexts before.contexts c.state_call.new.self.serials c.args.self.now.serials c.state_call.new.self.core.indexes.group c.args.self.now.core.indexes.group
-        refl (c.state_call.ensures.serials ∙ c.switch.ensures.serials) (c.state_call.ensures.group ∙ c.switch.ensures.group) c.requires.indexes in
+    = indexes_of_equal before.contexts before.contexts c.state_call.new.self.serials c.args.self.now.serials c.state_call.new.self.core.indexes.group c.args.self.now.core.indexes.group
+    refl (c.state_call.ensures.serials ∙ c.switch.ensures.serials) (c.state_call.ensures.group ∙ c.switch.ensures.group) c.requires.indexes in
     let contexts : after.contexts ≡ taken_by c.args.thread c.args.number (let_go c.args.thread before.contexts)
-      = ap (λ (x : GroupState). x.contexts) c.in-Ok-state_call.ensures.done.state
-        ∙ ap (λ (x : GroupState). taken_by c.args.thread c.args.number (let_go c.args.thread x.contexts)) c.switch.ensures.state in
+    = ap (λ (x : GroupState). x.contexts) c.in-Ok-state_call.ensures.done.state
+    ∙ ap (λ (x : GroupState). taken_by c.args.thread c.args.number (let_go c.args.thread x.contexts)) c.switch.ensures.state in
     indexes_of_equal after.contexts after.contexts c.drop_indexes.new.serials (only (λ n. has n after.contexts) c.state_call.new.self.serials) c.state_call.new.self.core.indexes.group c.state_call.new.self.core.indexes.group
     refl (c.drop_indexes.ensures ∙ ap (λ (x : GroupState). only (λ n. has n x.contexts) c.state_call.new.self.serials) c.group.ensures) refl
     (left_indexes before.contexts after.contexts c.state_call.new.self.serials c.state_call.new.self.core.indexes.group kept
-      (λ n there. fewer-taken c.args.thread c.args.number n before.contexts (sym (ap (has n) contexts) ∙ there)))
+    (λ n there. fewer-taken c.args.thread c.args.number n before.contexts (sym (ap (has n) contexts) ∙ there)))

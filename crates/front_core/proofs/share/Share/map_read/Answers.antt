@@ -12,7 +12,7 @@ use Rattle.front_core.proofs.share.Share.map_read.Goals as goal
 pub unreachable-requires : goal.unreachable-requires
 unreachable-requires g c =
     let h : InMap c.args.self.now.state c.args.thread c.args.target (unsigned_abs c.args.offset) (unsigned_abs c.args.length)
-      = c.map_calls_come_to.ensures.may_read (face c.args.self.now.core) (g.L.BackLink.state c.args.link.now) c.args.self.now.state c.args.thread c.args.target c.args.offset c.args.length c.requires in
+    = c.map_calls_come_to.ensures.may_read (face c.args.self.now.core) (g.L.BackLink.state c.args.link.now) c.args.self.now.state c.args.thread c.args.target c.args.offset c.args.length c.requires in
     c.in_default.ensures.none h.0 h.2.b h.2.facts h.2.holds.mapped h.1 h.2.is_bound h.2.holds.map
 
 pub returns-in_default-zeroed-clause-err : goal.returns-in_default-zeroed-clause-err
@@ -30,24 +30,24 @@ returns-then-length-eq0-clause-done g c =
 pub overflow_add-place : goal.overflow_add-place
 overflow_add-place g c =
     let h : InMap c.args.self.now.state c.args.thread c.args.target (unsigned_abs c.args.offset) (unsigned_abs c.args.length)
-      = c.map_calls_come_to.ensures.may_read (face c.args.self.now.core) (g.L.BackLink.state c.args.link.now) c.args.self.now.state c.args.thread c.args.target c.args.offset c.args.length c.requires in
+    = c.map_calls_come_to.ensures.may_read (face c.args.self.now.core) (g.L.BackLink.state c.args.link.now) c.args.self.now.state c.args.thread c.args.target c.args.offset c.args.length c.requires in
     let r : Reach c.args.self.now.core (g.L.BackLink.state c.args.link.now) c.in-Some.buffer (c.in-Some.place + unsigned_abs c.args.offset) (unsigned_abs c.args.length)
-      = in_map c.args.self.now.core (g.L.BackLink.state c.args.link.now) c.args.self.now.state c.args.thread (call.MapRead c.args.target c.args.offset c.args.length) c.args.target (unsigned_abs c.args.offset) (unsigned_abs c.args.length) c.in-Some.buffer c.in-Some.place c.requires h c.in-Some.ensures.some in
+    = in_map c.args.self.now.core (g.L.BackLink.state c.args.link.now) c.args.self.now.state c.args.thread (call.MapRead c.args.target c.args.offset c.args.length) c.args.target (unsigned_abs c.args.offset) (unsigned_abs c.args.length) c.in-Some.buffer c.in-Some.place c.requires h c.in-Some.ensures.some in
     let at_is : c.unsigned_abs-2.result ≡ unsigned_abs c.args.offset = c.unsigned_abs-2.ensures.value ∙ rw (to_z-of_z {w = w64} {z = c.args.offset} c.ranges.offset) refl in
     omega (arith, r.inside, r.fits, at_is)
 
 pub read-requires-clause-quiet : goal.read-requires-clause-quiet
 read-requires-clause-quiet g c =
     let h : InMap c.args.self.now.state c.args.thread c.args.target (unsigned_abs c.args.offset) (unsigned_abs c.args.length)
-      = c.map_calls_come_to.ensures.may_read (face c.args.self.now.core) (g.L.BackLink.state c.args.link.now) c.args.self.now.state c.args.thread c.args.target c.args.offset c.args.length c.requires in
+    = c.map_calls_come_to.ensures.may_read (face c.args.self.now.core) (g.L.BackLink.state c.args.link.now) c.args.self.now.state c.args.thread c.args.target c.args.offset c.args.length c.requires in
     (in_map c.args.self.now.core (g.L.BackLink.state c.args.link.now) c.args.self.now.state c.args.thread (call.MapRead c.args.target c.args.offset c.args.length) c.args.target (unsigned_abs c.args.offset) (unsigned_abs c.args.length) c.in-Some.buffer c.in-Some.place c.requires h c.in-Some.ensures.some).quiet
 
 pub read-requires-clause-store : goal.read-requires-clause-store
 read-requires-clause-store g c =
     let h : InMap c.args.self.now.state c.args.thread c.args.target (unsigned_abs c.args.offset) (unsigned_abs c.args.length)
-      = c.map_calls_come_to.ensures.may_read (face c.args.self.now.core) (g.L.BackLink.state c.args.link.now) c.args.self.now.state c.args.thread c.args.target c.args.offset c.args.length c.requires in
+    = c.map_calls_come_to.ensures.may_read (face c.args.self.now.core) (g.L.BackLink.state c.args.link.now) c.args.self.now.state c.args.thread c.args.target c.args.offset c.args.length c.requires in
     let r : Reach c.args.self.now.core (g.L.BackLink.state c.args.link.now) c.in-Some.buffer (c.in-Some.place + unsigned_abs c.args.offset) (unsigned_abs c.args.length)
-      = in_map c.args.self.now.core (g.L.BackLink.state c.args.link.now) c.args.self.now.state c.args.thread (call.MapRead c.args.target c.args.offset c.args.length) c.args.target (unsigned_abs c.args.offset) (unsigned_abs c.args.length) c.in-Some.buffer c.in-Some.place c.requires h c.in-Some.ensures.some in
+    = in_map c.args.self.now.core (g.L.BackLink.state c.args.link.now) c.args.self.now.state c.args.thread (call.MapRead c.args.target c.args.offset c.args.length) c.args.target (unsigned_abs c.args.offset) (unsigned_abs c.args.length) c.in-Some.buffer c.in-Some.place c.requires h c.in-Some.ensures.some in
     let at_is : c.unsigned_abs-2.result ≡ unsigned_abs c.args.offset = c.unsigned_abs-2.ensures.value ∙ rw (to_z-of_z {w = w64} {z = c.args.offset} c.ranges.offset) refl in
     let asked_is : c.unsigned_abs.result ≡ unsigned_abs c.args.length = c.unsigned_abs.ensures.value ∙ rw (to_z-of_z {w = w64} {z = c.args.length} c.ranges.length) refl in
     let len_is : length c.as_mut_slice.result.now ≡ unsigned_abs c.args.length = ap length (c.as_mut_slice.ensures.value ∙ c.in-Ok.ensures) ∙ length-replicate _ 0 ∙ asked_is in
@@ -62,8 +62,8 @@ returns-in-Ok-read-clause-done g c =
     let zeros : length c.in-Ok.bytes ≡ unsigned_abs c.args.length = ap length c.in-Ok.ensures ∙ length-replicate _ 0 ∙ asked_is in
     let given : length c.as_mut_slice.result.now ≡ unsigned_abs c.args.length = ap length c.as_mut_slice.ensures.value ∙ zeros in
     let read : Agrees c.read.new.out (cells (unsigned_abs c.args.length) (λ k. view (face c.args.self.now.core) (g.L.BackLink.state c.args.link.now) (Buffer c.in-Some.buffer) (c.in-Some.place + unsigned_abs c.args.offset + k)))
-      = subst (λ n. Agrees c.read.new.out (cells n (λ k. view (face c.args.self.now.core) (g.L.BackLink.state c.args.link.now) (Buffer c.in-Some.buffer) (c.in-Some.place + unsigned_abs c.args.offset + k)))) given
-        (subst (λ n. Agrees c.read.new.out (cells (length c.as_mut_slice.result.now) (λ k. view (face c.args.self.now.core) (g.L.BackLink.state c.args.link.now) (Buffer c.in-Some.buffer) (c.in-Some.place + n + k)))) at_is c.in-Ok-read.ensures.bytes) in
+    = subst (λ n. Agrees c.read.new.out (cells n (λ k. view (face c.args.self.now.core) (g.L.BackLink.state c.args.link.now) (Buffer c.in-Some.buffer) (c.in-Some.place + unsigned_abs c.args.offset + k)))) given
+    (subst (λ n. Agrees c.read.new.out (cells (length c.as_mut_slice.result.now) (λ k. view (face c.args.self.now.core) (g.L.BackLink.state c.args.link.now) (Buffer c.in-Some.buffer) (c.in-Some.place + n + k)))) at_is c.in-Ok-read.ensures.bytes) in
     let all : length c.read.new.out ≡ length c.in-Ok.bytes = agrees_length c.read.new.out _ read ∙ length-cells _ _ ∙ sym zeros in
     c.map_calls_come_to.ensures.read (face c.args.self.now.core) (g.L.BackLink.state c.args.link.now) (g.L.BackLink.state c.read.new.link) c.args.self.now.state c.args.thread c.in-Some.buffer c.in-Some.place c.args.target c.args.offset c.args.length _ c.requires c.in-Some.ensures.some
     c.in-Ok-read.ensures.moved

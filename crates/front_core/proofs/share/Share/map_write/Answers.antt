@@ -10,7 +10,7 @@ use Rattle.front_core.proofs.share.Share.map_write.Goals as goal
 pub unreachable-requires : goal.unreachable-requires
 unreachable-requires g c =
     let h : InMap c.args.self.now.state c.args.thread c.args.target (unsigned_abs c.args.offset) (payload_len c.args.payload.now)
-      = c.map_calls_come_to.ensures.may_write (face c.args.self.now.core) (g.L.BackLink.state c.args.link.now) c.args.self.now.state c.args.thread c.args.target c.args.offset c.args.payload.now c.requires in
+    = c.map_calls_come_to.ensures.may_write (face c.args.self.now.core) (g.L.BackLink.state c.args.link.now) c.args.self.now.state c.args.thread c.args.target c.args.offset c.args.payload.now c.requires in
     c.in_default.ensures.none h.0 h.2.b h.2.facts h.2.holds.mapped h.1 h.2.is_bound h.2.holds.map
 
 pub returns-in_default-bytes-clause-err : goal.returns-in_default-bytes-clause-err
@@ -25,24 +25,24 @@ returns-then-is_empty-clause-done g c =
 pub overflow_add-place : goal.overflow_add-place
 overflow_add-place g c =
     let h : InMap c.args.self.now.state c.args.thread c.args.target (unsigned_abs c.args.offset) (payload_len c.args.payload.now)
-      = c.map_calls_come_to.ensures.may_write (face c.args.self.now.core) (g.L.BackLink.state c.args.link.now) c.args.self.now.state c.args.thread c.args.target c.args.offset c.args.payload.now c.requires in
+    = c.map_calls_come_to.ensures.may_write (face c.args.self.now.core) (g.L.BackLink.state c.args.link.now) c.args.self.now.state c.args.thread c.args.target c.args.offset c.args.payload.now c.requires in
     let r : Reach c.args.self.now.core (g.L.BackLink.state c.args.link.now) c.in-Some.buffer (c.in-Some.place + unsigned_abs c.args.offset) (payload_len c.args.payload.now)
-      = in_map c.args.self.now.core (g.L.BackLink.state c.args.link.now) c.args.self.now.state c.args.thread (call.MapWrite c.args.target c.args.offset c.args.payload.now) c.args.target (unsigned_abs c.args.offset) (payload_len c.args.payload.now) c.in-Some.buffer c.in-Some.place c.requires h c.in-Some.ensures.some in
+    = in_map c.args.self.now.core (g.L.BackLink.state c.args.link.now) c.args.self.now.state c.args.thread (call.MapWrite c.args.target c.args.offset c.args.payload.now) c.args.target (unsigned_abs c.args.offset) (payload_len c.args.payload.now) c.in-Some.buffer c.in-Some.place c.requires h c.in-Some.ensures.some in
     let at_is : c.unsigned_abs.result ≡ unsigned_abs c.args.offset = c.unsigned_abs.ensures.value ∙ rw (to_z-of_z {w = w64} {z = c.args.offset} c.ranges.offset) refl in
     omega (arith, r.inside, r.fits, at_is)
 
 pub write-requires-clause-quiet : goal.write-requires-clause-quiet
 write-requires-clause-quiet g c =
     let h : InMap c.args.self.now.state c.args.thread c.args.target (unsigned_abs c.args.offset) (payload_len c.args.payload.now)
-      = c.map_calls_come_to.ensures.may_write (face c.args.self.now.core) (g.L.BackLink.state c.args.link.now) c.args.self.now.state c.args.thread c.args.target c.args.offset c.args.payload.now c.requires in
+    = c.map_calls_come_to.ensures.may_write (face c.args.self.now.core) (g.L.BackLink.state c.args.link.now) c.args.self.now.state c.args.thread c.args.target c.args.offset c.args.payload.now c.requires in
     (in_map c.args.self.now.core (g.L.BackLink.state c.args.link.now) c.args.self.now.state c.args.thread (call.MapWrite c.args.target c.args.offset c.args.payload.now) c.args.target (unsigned_abs c.args.offset) (payload_len c.args.payload.now) c.in-Some.buffer c.in-Some.place c.requires h c.in-Some.ensures.some).quiet
 
 pub write-requires-clause-store : goal.write-requires-clause-store
 write-requires-clause-store g c =
     let h : InMap c.args.self.now.state c.args.thread c.args.target (unsigned_abs c.args.offset) (payload_len c.args.payload.now)
-      = c.map_calls_come_to.ensures.may_write (face c.args.self.now.core) (g.L.BackLink.state c.args.link.now) c.args.self.now.state c.args.thread c.args.target c.args.offset c.args.payload.now c.requires in
+    = c.map_calls_come_to.ensures.may_write (face c.args.self.now.core) (g.L.BackLink.state c.args.link.now) c.args.self.now.state c.args.thread c.args.target c.args.offset c.args.payload.now c.requires in
     let r : Reach c.args.self.now.core (g.L.BackLink.state c.args.link.now) c.in-Some.buffer (c.in-Some.place + unsigned_abs c.args.offset) (payload_len c.args.payload.now)
-      = in_map c.args.self.now.core (g.L.BackLink.state c.args.link.now) c.args.self.now.state c.args.thread (call.MapWrite c.args.target c.args.offset c.args.payload.now) c.args.target (unsigned_abs c.args.offset) (payload_len c.args.payload.now) c.in-Some.buffer c.in-Some.place c.requires h c.in-Some.ensures.some in
+    = in_map c.args.self.now.core (g.L.BackLink.state c.args.link.now) c.args.self.now.state c.args.thread (call.MapWrite c.args.target c.args.offset c.args.payload.now) c.args.target (unsigned_abs c.args.offset) (payload_len c.args.payload.now) c.in-Some.buffer c.in-Some.place c.requires h c.in-Some.ensures.some in
     let at_is : c.unsigned_abs.result ≡ unsigned_abs c.args.offset = c.unsigned_abs.ensures.value ∙ rw (to_z-of_z {w = w64} {z = c.args.offset} c.ranges.offset) refl in
     let len_is : length c.as_slice-2.result.now ≡ payload_len c.args.payload.now = ap length (c.as_slice-2.ensures ∙ c.in-Ok.ensures) ∙ length-payload_bytes c.args.payload.now in
     let some : 0 < length c.as_slice-2.result.now = search rules in
@@ -54,4 +54,4 @@ returns-in-Ok-write-clause-done g c =
     let at_is : c.unsigned_abs.result ≡ unsigned_abs c.args.offset = c.unsigned_abs.ensures.value ∙ rw (to_z-of_z {w = w64} {z = c.args.offset} c.ranges.offset) refl in
     c.map_calls_come_to.ensures.write (face c.args.self.now.core) (g.L.BackLink.state c.args.link.now) (g.L.BackLink.state c.write.new.link) c.args.self.now.state c.args.thread c.in-Some.buffer c.in-Some.place c.args.target c.args.offset c.args.payload.now c.requires c.in-Some.ensures.some
     (wrote_as (face c.args.self.now.core) (g.L.BackLink.state c.args.link.now) (g.L.BackLink.state c.write.new.link) c.in-Some.buffer _ (c.in-Some.place + unsigned_abs c.args.offset) _ (payload_bytes c.args.payload.now)
-      (ap (λ n. c.in-Some.place + n) at_is) (c.as_slice-2.ensures ∙ c.in-Ok.ensures) c.in-Ok-write.ensures.moved)
+    (ap (λ n. c.in-Some.place + n) at_is) (c.as_slice-2.ensures ∙ c.in-Ok.ensures) c.in-Ok-write.ensures.moved)

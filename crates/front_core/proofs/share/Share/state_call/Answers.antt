@@ -1,5 +1,4 @@
-use Rattle.std.proofs.Common.{◌≡◌, subst, sym, ◌∙◌, ap, refl}
-use Rattle.std.specs.Prelude.{Some}
+use Rattle.std.proofs.Common.{◌≡◌, subst, sym, ◌∙◌, ap}
 use Rattle.gl_model.specs.declared.state.GroupState.{GroupState}
 use Rattle.gl_model.specs.GroupEffect.{group_effect}
 use Rattle.gl_state.specs.Ended.{gone}
@@ -12,12 +11,12 @@ pub returns-in-Some-clause-done : goal.returns-in-Some-clause-done
 returns-in-Some-clause-done g c =
     let before : GroupState = c.args.self.now.state in
     let ended_is : c.in-Ok.applied.ended.buffers.items ≡ gone before.buffers (group_effect before c.args.thread c.args.call.now).buffers
-      = c.in-Ok.ensures.ended.buffers ∙ ap (λ (x : GroupState). gone before.buffers x.buffers) c.in-Ok.ensures.ok in
+    = c.in-Ok.ensures.ended.buffers ∙ ap (λ (x : GroupState). gone before.buffers x.buffers) c.in-Ok.ensures.ok in
     subst (λ x. IsCarriedOut (face c.args.self.now.core) (face c.end_all.new.self) (g.L.BackLink.state c.args.link.now) (g.L.BackLink.state c.end_all.new.link) before x c.args.thread c.args.call.now c.in-Some.reply)
     (sym c.in-Ok.ensures.ok)
     (c.state_calls_come_to.ensures.carried c.args.self.now.core (face c.end_all.new.self) (g.L.BackLink.state c.args.link.now) (g.L.BackLink.state c.end_all.new.link) before c.args.thread c.args.call.now c.in-Some.reply c.in-Ok.applied.ended.buffers.items
-      c.requires.which c.requires.may (sym c.in-Ok.ensures.reply ∙ c.in-Some.is) ended_is
-      (subst (λ xs. HasEnded (face c.args.self.now.core) (face c.end_all.new.self) (g.L.BackLink.state c.args.link.now) (g.L.BackLink.state c.end_all.new.link) xs) c.as_slice.ensures.value c.end_all.ensures.ended))
+    c.requires.which c.requires.may (sym c.in-Ok.ensures.reply ∙ c.in-Some.is) ended_is
+    (subst (λ xs. HasEnded (face c.args.self.now.core) (face c.end_all.new.self) (g.L.BackLink.state c.args.link.now) (g.L.BackLink.state c.end_all.new.link) xs) c.as_slice.ensures.value c.end_all.ensures.ended))
 
-pub returns-clause-err : goal.returns-clause-err
-returns-clause-err g c = c.state_calls_come_to.ensures.owns (face c.args.self.now.core) (g.L.BackLink.state c.args.link.now) c.requires.may.backs.holds
+pub returns-in-Err-clause-err : goal.returns-in-Err-clause-err
+returns-in-Err-clause-err g c = c.state_calls_come_to.ensures.owns (face c.args.self.now.core) (g.L.BackLink.state c.args.link.now) c.requires.may.backs.holds
