@@ -1,5 +1,6 @@
 ghost use Rattle.std.specs.Prelude.{◌≡◌, IfOk};
 ghost use Rattle.gl_model.specs.GroupState.{opening_group};
+ghost use Rattle.gl_model.specs.GroupEffect.{swept};
 
 use crate::nameless::{Nameless, Unused};
 use gl_model::GroupState;
@@ -43,5 +44,12 @@ impl SharedState {
         ensures { result.now ≡ self.now }
     {
         &self.group
+    }
+
+    /// Each object is named, bound or attached: a sweep finds nothing to end.
+    pub fn objects_are_referred_to(&self)
+        ensures { swept self.now ≡ self.now }
+    {
+        let _group = &self.group;
     }
 }
