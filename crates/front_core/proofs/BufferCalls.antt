@@ -32,9 +32,9 @@ use Rattle.back_core.specs.Link.{Link}
 use Rattle.front_model.specs.Face.{Object, Buffer, Face, Outline, outline, outline_at, put_object, view}
 use Rattle.front_model.specs.Stands.{Moved, IsQuiet, Holds, no_hands}
 use Rattle.front_model.specs.Wanted.{buffer_kind, kind_wanted, wanted, AgreeWith, IsMapped, IsAccepted, IsBound, HasBound, HasMapRange, with_bytes}
-use Rattle.front_core.proofs.BufferLaws.{put_object-same_value}
-use Rattle.front_core.specs.Buffers.{stored_of}
-use Rattle.front_core.specs.Core.{CoreParts, face, HasStore, outline_of_size}
+use Rattle.front_moves.proofs.BufferLaws.{put_object-same_value}
+use Rattle.front_moves.specs.Buffers.{stored_of}
+use Rattle.front_moves.specs.Core.{CoreParts, face, HasStore, outline_of_size}
 use Rattle.front_core.specs.Share.{MayCall, IsStateOf, IsCarriedOut}
 
 -- the context that is current where a call of OpenGL ES was accepted

@@ -33,8 +33,8 @@ use Rattle.front_model.specs.Face.{Object, Buffer, Texture, Renderbuffer, Face, 
 use Rattle.front_model.specs.Stands.{IsQuiet}
 use Rattle.front_model.specs.Wanted.{buffer_kind, kind_wanted, wanted, AgreeWith, exists, IsMapped, IsAccepted, HasFreeNumbers}
 use Rattle.front_model.specs.Calls.{makes_storage}
-use Rattle.front_core.specs.Core.{CoreParts, face}
-use Rattle.front_core.specs.Ending.{HasEnded}
+use Rattle.front_moves.specs.Core.{CoreParts, face}
+use Rattle.front_moves.specs.Ending.{HasEnded}
 use Rattle.front_core.specs.Share.{is_of_state}
 
 pub makes_none : (asked : Call) → is_of_state asked ≡ true → makes_storage asked ≡ false

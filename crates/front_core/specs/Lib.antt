@@ -1,5 +1,2 @@
-pub mod Buffers
-pub mod Core
-pub mod Ending
+pub mod Front
 pub mod Share
-pub mod Recording

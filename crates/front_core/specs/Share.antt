@@ -1,11 +1,12 @@
 -- A share group's state and objects together, and what a call does to them.
-use Rattle.std.specs.Prelude.{◌≡◌, ◌≢◌, ℕ, Bool, true, false, Option, Some, None, List}
+use Rattle.std.specs.Prelude.{◌≡◌, ◌≢◌, ℕ, ◌==◌, Bool, true, false, if◌then◌else◌, Option, Some, None, List, [], ◌∷◌, ◌++◌}
 use Rattle.std.specs.Option.{option_map, option_and_then}
 use Rattle.gl_calls.specs.declared.call.Call.{Call}
 use Rattle.gl_calls.specs.declared.call.Call.TheVariants as call
 use Rattle.gl_calls.specs.declared.words.ObjectKind.TheVariants as kinds
 use Rattle.gl_calls.specs.declared.words.BindTarget.TheVariants as targets
 use Rattle.gl_calls.specs.declared.reply.Reply.{Reply}
+use Rattle.gl_calls.specs.declared.reply.Reply.TheVariants as reply
 use Rattle.tables.specs.Table.{Entries, entry, has}
 use Rattle.gl_model.specs.declared.state.Context.{Context}
 use Rattle.gl_model.specs.declared.state.GroupState.{GroupState}
@@ -16,12 +17,13 @@ use Rattle.gl_model.specs.Effect.{effect}
 use Rattle.gl_model.specs.Legal.{Answers}
 use Rattle.gl_model.specs.Refusal.{refusal}
 use Rattle.gl_model.specs.Sizes.{HasSizes, HasItsData}
+use Rattle.back_core.specs.Own.{Own, HostRead}
 use Rattle.back_core.specs.Link.{Link}
 use Rattle.back_core.specs.Needs.{IsOfGroup}
 use Rattle.front_model.specs.Face.{Object, Buffer, Face, outline_at, view}
 use Rattle.front_model.specs.Stands.{Holds, no_hands, IsQuiet}
 use Rattle.front_model.specs.Wanted.{kind_wanted, wanted, AgreeWith, IsMapped, HasFreeNumbers}
-use Rattle.front_core.specs.Core.{CoreParts, face}
+use Rattle.front_moves.specs.Core.{CoreParts, face}
 
 -- The objects of a front are those of a state without contents: each has its store, and the host may use each mapped buffer.
 pub record Backs (f : Face) (s : Link) (group : GroupState) : Type 0 where
@@ -63,6 +65,29 @@ pub record MayCall (f : Face) (s : Link) (group : GroupState) (thread : ℕ) (ca
   pub model : GroupModel
   pub is : IsStateOf model group
   pub its_data : HasItsData call
+
+-- the context that a thread gives up as it takes the context of this number, or none
+abbrev pub given_up : Option (ℕ × Context) → ℕ → Option ℕ
+given_up None number = None
+given_up (Some (n, context)) number = if n == number then None else Some n
+
+-- the index of the context that is replaced as a thread takes the context of this number
+abbrev pub replaced_index : GroupState → Entries ℕ → ℕ → ℕ → Option ℕ
+replaced_index group serials thread number = option_and_then (λ n. entry n serials) (given_up (current_entry group thread) number)
+
+-- the group's list grew by one host read of these bytes; no bytes need none
+abbrev pub Gains : List Own → List Own → List ℕ → Type 0
+Gains old new [] = Unit {0}
+Gains old new (b ∷ bytes) = (id : ℕ) × (at : ℕ) × (new ≡ old ++ HostRead id at (b ∷ bytes) ∷ [])
+
+-- the bytes of a reply are those of a host read that was made for it
+abbrev pub HasOrigin : Link → Link → Reply → Type 0
+HasOrigin s t (reply.Bytes bytes) = Gains s.mine t.mine bytes
+HasOrigin s t _ = Unit {0}
+
+abbrev pub is_map_read : Call → Bool
+is_map_read (call.MapRead target offset len) = true
+is_map_read _ = false
 
 -- the calls that are built
 abbrev pub is_built : Call → Bool

@@ -15,7 +15,7 @@ ghost use Rattle.back_core.specs.Link.{Link};
 ghost use Rattle.front_model.specs.Face.{Face, Buffer, put_object, outline_at, view};
 ghost use Rattle.front_model.specs.Stands.{Holds, Owns, Moved, IsQuiet, no_hands};
 ghost use Rattle.front_model.specs.Wanted.{IsBound, HasBound, HasMapRange, with_bytes};
-ghost use Rattle.front_core.specs.Core.{CoreParts, face};
+ghost use Rattle.front_moves.specs.Core.{CoreParts, face};
 ghost use Rattle.front_core.specs.Share.{MayCall, IsCarriedOut};
 
 use front_model::{

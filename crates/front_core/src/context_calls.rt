@@ -5,7 +5,7 @@ ghost use Rattle.tables.specs.Table.{any_value, entry, has, only};
 ghost use Rattle.back_core.specs.Needs.{IsOfGroup};
 ghost use Rattle.front_model.specs.Face.{outline_at, view};
 ghost use Rattle.front_model.specs.Stands.{Holds, Owns, Moved, IsQuiet, no_hands};
-ghost use Rattle.front_core.specs.Core.{face};
+ghost use Rattle.front_moves.specs.Core.{face};
 ghost use Rattle.front_core.specs.Share.{MayCall, IsCarriedOut, HaveIndexes};
 
 use crate::share::Share;

@@ -2,7 +2,7 @@
 ghost use Rattle.std.specs.Prelude.{◌≡◌, IfOk, OnErr};
 ghost use Rattle.vk_device.specs.Faults.{HasCause};
 ghost use Rattle.front_model.specs.Stands.{Owns};
-ghost use Rattle.front_core.specs.Core.{face};
+ghost use Rattle.front_moves.specs.Core.{face};
 ghost use Rattle.front_core.specs.Share.{MayCall, IsCarriedOut};
 
 use crate::calls_come_to::map_calls_come_to;

@@ -7,7 +7,7 @@ ghost use Rattle.gl_model.specs.Bindings.{current_context};
 ghost use Rattle.front_model.specs.Wanted.{IsBound};
 ghost use Rattle.front_core.specs.Share.{current_index};
 
-use crate::group_core::Core;
+use front_moves::Core;
 use gl_calls::BufferTarget;
 use gl_model::BufferFacts;
 use gl_state::{SharedState, current_number};

@@ -1,31 +1,16 @@
 // The calls that write no cells: names, bindings, contexts, parameters and errors.
-ghost use Rattle.std.specs.Prelude.{◌≡◌, ◌≤◌, true, IfOk, OnErr};
+ghost use Rattle.std.specs.Prelude.{◌≡◌, true, IfOk, OnErr};
 ghost use Rattle.vk_device.specs.Faults.{HasCause};
-ghost use Rattle.front_model.specs.Stands.{Holds, Owns, no_hands};
-ghost use Rattle.front_core.specs.Core.{face};
-ghost use Rattle.front_core.specs.Ending.{HasEnded};
+ghost use Rattle.front_model.specs.Stands.{Owns};
+ghost use Rattle.front_moves.specs.Core.{face};
 ghost use Rattle.front_core.specs.Share.{MayCall, IsCarriedOut, is_of_state};
 
-use crate::group_core::Core;
 use crate::share::Share;
 use crate::state_calls_come_to::state_calls_come_to;
 use back_core::BackLink;
 use gl_calls::{Call, Reply};
 use gl_state::{Applied, apply};
 use vk_types::Stop;
-
-impl Core {
-    /// Ends the stores of some buffers, each where it has one.
-    fn end_all<L: BackLink>(&mut self, link: &mut L, buffers: &[u32])
-        requires holds { Holds (face self.old) no_hands (L.state link.old) }
-        ensures ended { HasEnded (face self.old) (face self.new) (L.state link.old) (L.state link.new) buffers.now }
-        ensures faults { L.faults link.old ≤ L.faults link.new }
-    {
-        for buffer in buffers {
-            self.end(link, *buffer);
-        }
-    }
-}
 
 impl Share {
     /// Carries out a call that writes no cells: the state changes, and the buffers that stopped existing are ended.

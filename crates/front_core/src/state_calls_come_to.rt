@@ -10,8 +10,8 @@ ghost use Rattle.gl_state.specs.Ended.{gone};
 ghost use Rattle.back_core.specs.Link.{Link};
 ghost use Rattle.front_model.specs.Face.{Face};
 ghost use Rattle.front_model.specs.Stands.{Holds, Owns, no_hands};
-ghost use Rattle.front_core.specs.Core.{CoreParts, face};
-ghost use Rattle.front_core.specs.Ending.{HasEnded};
+ghost use Rattle.front_moves.specs.Core.{CoreParts, face};
+ghost use Rattle.front_moves.specs.Ending.{HasEnded};
 ghost use Rattle.front_core.specs.Share.{MayCall, IsCarriedOut, is_of_state};
 
 use front_model::{calls_keep_agreement, calls_keep_stores, steps_may};

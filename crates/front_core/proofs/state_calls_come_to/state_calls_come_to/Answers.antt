@@ -10,8 +10,8 @@ use Rattle.gl_state.specs.Applied.{reply_of}
 use Rattle.front_model.specs.Face.{Object, view}
 use Rattle.front_model.specs.Stands.{no_hands}
 use Rattle.front_model.specs.Wanted.{kind_wanted, exists, IsMapped, HasFreeNumbers}
-use Rattle.front_core.specs.Core.{face}
-use Rattle.front_core.proofs.EndedBuffers.{gone_is}
+use Rattle.front_moves.specs.Core.{face}
+use Rattle.front_core.proofs.GoneBuffers.{gone_is}
 use Rattle.front_core.proofs.StateCalls.{Keeping, has_reply, makes_none, maps_none, still_agrees, kinds_left, maps_left, agrees_left}
 use Rattle.front_core.proofs.state_calls_come_to.state_calls_come_to.Goals as goal
 

@@ -3,7 +3,7 @@ use Rattle.tables.specs.Table.{with_entry}
 use Rattle.gl_model.specs.declared.state.GroupState.{GroupState}
 use Rattle.gl_model.specs.GroupState.{new_context}
 use Rattle.back_core.specs.Needs.{IsOfGroup}
-use Rattle.front_core.specs.Core.{face}
+use Rattle.front_moves.specs.Core.{face}
 use Rattle.front_core.proofs.ContextIndexes.{created_indexes, indexes_of_equal}
 use Rattle.front_core.proofs.share.Share.create_context.Goals as goal
 

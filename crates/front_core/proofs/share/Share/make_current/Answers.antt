@@ -3,7 +3,7 @@ use Rattle.gl_calls.specs.declared.call.Call.TheVariants as call
 use Rattle.tables.specs.Table.{has, only}
 use Rattle.gl_model.specs.declared.state.GroupState.{GroupState}
 use Rattle.gl_model.specs.GroupEffect.{taken_by, let_go}
-use Rattle.front_core.specs.Core.{face}
+use Rattle.front_moves.specs.Core.{face}
 use Rattle.front_core.specs.Share.{MayCall, IsCarriedOut, HaveIndexes}
 use Rattle.front_core.proofs.ContextIndexes.{left_indexes, fewer-taken, indexes_of_equal}
 use Rattle.front_core.proofs.Switching.{may_still, carried_from}

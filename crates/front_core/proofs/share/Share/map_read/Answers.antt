@@ -5,7 +5,7 @@ use Rattle.std.proofs.Math.Facts.{to_z-of_z}
 use Rattle.std.specs.Prelude.{unsigned_abs}
 use Rattle.std.proofs.lemmas.List.{length-replicate}
 use Rattle.gl_calls.specs.declared.call.Call.TheVariants as call
-use Rattle.front_core.specs.Core.{face}
+use Rattle.front_moves.specs.Core.{face}
 use Rattle.front_core.proofs.BufferCalls.{InMap, Reach, in_map, has_reach, moved_none, agrees_none, agrees_length, length-cells, written_over}
 use Rattle.front_core.proofs.share.Share.map_read.Goals as goal
 

@@ -3,7 +3,7 @@ use Rattle.std.proofs.Math.Facts.{to_z-of_z}
 use Rattle.std.specs.Prelude.{unsigned_abs}
 use Rattle.gl_calls.specs.declared.call.Call.TheVariants as call
 use Rattle.gl_calls.specs.Words.{payload_len, payload_bytes}
-use Rattle.front_core.specs.Core.{face}
+use Rattle.front_moves.specs.Core.{face}
 use Rattle.front_core.proofs.BufferCalls.{InMap, Reach, in_map, has_reach, length-payload_bytes, wrote_as, wrote_nothing}
 use Rattle.front_core.proofs.share.Share.map_write.Goals as goal
 

@@ -2,8 +2,8 @@ use Rattle.std.proofs.Common.{◌≡◌, subst, sym, ◌∙◌, ap}
 use Rattle.gl_model.specs.declared.state.GroupState.{GroupState}
 use Rattle.gl_model.specs.GroupEffect.{group_effect}
 use Rattle.gl_state.specs.Ended.{gone}
-use Rattle.front_core.specs.Core.{face}
-use Rattle.front_core.specs.Ending.{HasEnded}
+use Rattle.front_moves.specs.Core.{face}
+use Rattle.front_moves.specs.Ending.{HasEnded}
 use Rattle.front_core.specs.Share.{IsCarriedOut}
 use Rattle.front_core.proofs.share.Share.state_call.Goals as goal
 

@@ -1,0 +1,102 @@
+// The front of a share group: its calls in turn, and their history.
+ghost use Rattle.std.specs.Prelude.{◌≡◌, ◌≤◌, ◌<◌, true, false, Contains, None, IfOk, OnOk, OnErr};
+ghost use Rattle.vk_device.specs.Faults.{HasCause};
+ghost use Rattle.gl_model.specs.Refusal.{refusal};
+ghost use Rattle.gl_model.specs.Sizes.{HasItsData};
+ghost use Rattle.front_model.specs.Stands.{Owns};
+ghost use Rattle.front_moves.specs.Core.{face};
+ghost use Rattle.front_core.specs.Share.{HasOrigin, is_built, is_map_read};
+ghost use Rattle.front_core.specs.Front.{FrontStands, IsNewFront, HasAnswered, HasStopped, IsClosed};
+
+use crate::share::Share;
+use back_core::BackLink;
+use gl_calls::{Call, Entry, Reply};
+use std::alloc::{AllocError, Global};
+use std::marker::Model;
+use vk_types::Stop;
+
+/// One share group: what it has on the device, its state, and the calls that were answered. A front is to be ended by `abandon`.
+pub struct Front {
+    share: Share,
+    threads: Vec<u32>,
+    history: Vec<Entry>,
+    stopped: bool,
+    closed: bool,
+}
+
+impl Model for Front {
+    ghost use Rattle.front_core.specs.Front.{FrontModel};
+
+    ghost Value = { FrontModel };
+
+    ghost view = { λ f. record { core = f.share.core; state = f.share.state; serials = f.share.serials; threads = f.threads.items; history = f.history.items; stopped = f.stopped; closed = f.closed } };
+}
+
+impl Front {
+    /// The front of a group, 0 to 7, with these threads. It stands on each new link of the group.
+    pub fn new(alloc: Global, group: u8, threads: &[u32]) -> Result<Front, AllocError>
+        requires never { ⊥ }
+        requires low { group < 8 }
+        ensures { IfOk result (λ front. IsNewFront front group threads.now) }
+    {
+        unreachable!()
+    }
+
+    /// Answers a call that a thread makes on a line of its trace, and notes it in the history. After `Lost` or `Memory` the front is
+    /// stopped, and its history is that from before the call.
+    pub fn call<L: BackLink>(
+        &mut self,
+        link: &mut L,
+        thread: u32,
+        line: u32,
+        call: &Call,
+    ) -> Result<Reply, Stop>
+        requires never { ⊥ }
+        requires stands { FrontStands self.old (L.state link.old) }
+        requires declared { Contains self.old.threads thread }
+        requires built { is_built call.now ≡ true }
+        requires its_data { HasItsData call.now }
+        ensures ok { IfOk result (λ reply. HasAnswered self.old self.new (L.state link.new) thread line call.now reply) }
+        ensures origin { IfOk result (λ reply. is_map_read call.now ≡ true → refusal self.old.state thread call.now ≡ None → HasOrigin (L.state link.old) (L.state link.new) reply) }
+        ensures err { OnErr result (HasStopped self.old self.new (L.state link.new)) }
+        ensures cause { HasCause (L.faults link.old) (L.faults link.new) result }
+    {
+        unreachable!()
+    }
+
+    /// The calls that were answered, in order, with their replies.
+    pub fn history(&self) -> &[Entry]
+        ensures { result.now ≡ self.now.history }
+    {
+        self.history.as_slice()
+    }
+
+    /// Whether a call or the closing ended by `Lost` or `Memory`.
+    pub fn is_stopped(&self) -> bool
+        ensures { result ≡ self.now.stopped }
+    {
+        self.stopped
+    }
+
+    /// Flushes each context and gives every handle away. The front is closed from now on, and its group holds nothing.
+    pub fn close<L: BackLink>(&mut self, link: &mut L) -> Result<(), Stop>
+        requires never { ⊥ }
+        requires stands { FrontStands self.old (L.state link.old) }
+        ensures ok { OnOk result (IsClosed self.old self.new (L.state link.new)) }
+        ensures err { OnErr result (HasStopped self.old self.new (L.state link.new)) }
+        ensures cause { HasCause (L.faults link.old) (L.faults link.new) result }
+    {
+        unreachable!()
+    }
+
+    /// Ends a front, and gives its history. Each handle that it has still is let go. This takes no memory.
+    pub fn abandon<L: BackLink>(self, link: &mut L) -> Vec<Entry>
+        requires never { ⊥ }
+        requires owns { Owns (face self.core).objects (L.state link.old) }
+        ensures history { result.items ≡ self.history }
+        ensures rest { L.state link.new ≡ record (L.state link.old) { held = (L.state link.new).held } }
+        ensures faults { L.faults link.old ≤ L.faults link.new }
+    {
+        unreachable!()
+    }
+}

@@ -1,0 +1,133 @@
+-- The stores of buffers in a front.
+use Rattle.std.proofs.Common.{◌≡◌, ◌≢◌, ℕ, ◌+◌, ◌<◌, ◌≤◌, ◌==◌, false, [], refl, sym, ◌∙◌, ap, subst, arith, inl, inr}
+use Rattle.std.specs.Prelude.{◌⊎◌, Option, Some, None, IfSome}
+use Rattle.std.specs.Option.{option_map}
+use Rattle.std.proofs.lemmas.Bool.{cases_eq, eq-eqb, ne_eqb}
+use Rattle.std.proofs.lemmas.Option.{same_Some}
+use Rattle.vk_types.specs.declared.handles.HandleId.{HandleId}
+use Rattle.vk_types.specs.declared.handles.Kind.TheVariants as kind
+use Rattle.vk_types.specs.Touches.{the_end}
+use Rattle.vk_model.specs.Fitting.{HasRange}
+use Rattle.tables.specs.Table.{Entries, entry}
+use Rattle.buffer_helper.specs.Buffers.{BufferStore}
+use Rattle.back_core.specs.Link.{Link}
+use Rattle.front_model.specs.Face.{Object, Buffer, Texture, Renderbuffer, Stored, Outline, outline, nodes_touch}
+use Rattle.front_model.specs.Stands.{Hands, Holds, StoredOwned, Owns}
+use Rattle.front_moves.specs.Buffers.{stored_of, objects_of}
+use Rattle.front_moves.specs.Core.{CoreParts, face}
+use Rattle.front_moves.specs.Recording.{HasBuffer}
+use Rattle.front_moves.proofs.Recordable.{IsFree}
+
+-- the store of a buffer, which is this object of so many bytes
+pub record IsStore (c : CoreParts) (b : ℕ) (id : HandleId) (len : ℕ) : Type 0 where
+  pub store : BufferStore
+  pub is : entry b c.buffers ≡ Some store
+  pub handle : store.handle.0 ≡ id.0
+  pub size : store.size ≡ len
+
+pub store_of : (c : CoreParts) (index b : ℕ) (id : HandleId) (len : ℕ) → HasBuffer c index b id len → IsStore c b id len
+store_of c index b id len has = go (entry b c.buffers) refl has.store has.handle
+  where
+    go : (v : Option BufferStore) → entry b c.buffers ≡ v → option_map outline (option_map stored_of v) ≡ Some (record { kind = kind.Buffer len; waiting = [] }) → IfSome (option_map stored_of v) (λ x. x.handle ≡ id.0) → IsStore c b id len
+    go None is none handle = cc
+    go (Some x) is same handle = record { store = x; is = is; handle = handle; size = size x same }
+      where
+        size : (x : BufferStore) → Some (outline (stored_of x)) ≡ Some (record { kind = kind.Buffer len; waiting = [] }) → x.size ≡ len
+        size x same =
+            let kinds : kind.Buffer x.size ≡ kind.Buffer len = ap (λ (o : Outline). o.kind) (same_Some _ _ same) in
+            cc
+
+-- it is an object of the front
+pub store_at : (c : CoreParts) (b : ℕ) (x : BufferStore) → entry b c.buffers ≡ Some x → (face c).objects (Buffer b) ≡ Some (stored_of x)
+store_at c b x is = ap (option_map stored_of) is
+
+-- that no two objects have one handle
+abbrev pub Distinct : CoreParts → Type 0
+Distinct c = (o q : Object) (x y : Stored) → (face c).objects o ≡ Some x → (face c).objects q ≡ Some y → x.handle ≡ y.handle → o ≡ q
+
+same_buffer : (a b : ℕ) → Buffer a ≡ Buffer b → a ≡ b
+same_buffer a b e = cc
+
+-- a store has the handle of a buffer's store where it is that buffer's
+pub handle_is : (c : CoreParts) (b q : ℕ) (id : HandleId) (len : ℕ) (x : BufferStore) → Distinct c → IsStore c q id len → entry b c.buffers ≡ Some x → (id.0 == x.handle.0) ≡ (b == q)
+handle_is c b q id len x distinct of is = go (cases_eq b q)
+  where
+    same : b ≡ q → id.0 ≡ x.handle.0
+    same e =
+        let at : Some of.store ≡ Some x = sym of.is ∙ ap (λ k. entry k c.buffers) (sym e) ∙ is in
+        sym of.handle ∙ ap (λ (y : BufferStore). y.handle.0) (same_Some _ _ at)
+
+    back : id.0 ≡ x.handle.0 → b ≡ q
+    back e = same_buffer b q (distinct (Buffer b) (Buffer q) (stored_of x) (stored_of of.store) (store_at c b x is) (store_at c q of.store of.is) (sym e ∙ sym of.handle))
+
+    go : (b ≡ q) ⊎ (b ≡ q → ⊥) → (id.0 == x.handle.0) ≡ (b == q)
+    go (inl e) = eq-eqb id.0 x.handle.0 (same e) ∙ sym (eq-eqb b q e)
+    go (inr ne) = ne_eqb id.0 x.handle.0 (λ e. ne (back e)) ∙ sym (ne_eqb b q ne)
+
+-- an object with the handle is the buffer
+pub other_handle : (c : CoreParts) (q : ℕ) (id : HandleId) (len : ℕ) (o : Object) (x : Stored) → Distinct c → IsStore c q id len → (face c).objects o ≡ Some x → o ≢ Buffer q → (id.0 == x.handle) ≡ false
+other_handle c q id len o x distinct of at other =
+    ne_eqb id.0 x.handle (λ e. other (distinct o (Buffer q) x (stored_of of.store) at (store_at c q of.store of.is) (sym e ∙ sym of.handle)))
+
+-- that no object has the handle
+abbrev pub IsInNone : CoreParts → ℕ → Type 0
+IsInNone c id = (o : Object) (x : Stored) → (face c).objects o ≡ Some x → x.handle ≢ id
+
+pub hand_apart : (c : CoreParts) (id : HandleId) (o : Object) (x : Stored) → IsInNone c id.0 → (face c).objects o ≡ Some x → (id.0 == x.handle) ≡ false
+hand_apart c id o x none at = ne_eqb id.0 x.handle (λ e. none o x at (sym e))
+
+-- nodes may touch a range of it
+pub buffer_free : (c : CoreParts) (hands : Hands) (s : Link) (index b : ℕ) (id : HandleId) (len at size : ℕ) → Holds (face c) hands s → HasBuffer c index b id len → IsStore c b id len → 0 < size → at + size ≤ len → IsFree (face c) hands s index id at size
+buffer_free c hands s index b id len at size h has of some inside =
+    record {
+      range = subst (λ k. HasRange k at size) (sym kind_is) (some, inside);
+      end = let end : len ≤ the_end = has.end in omega (arith, inside, end);
+      target = inr (Buffer b, stored_of of.store, store_at c b of.store of.is, of.handle);
+      parted = λ i ne. subst (λ j. nodes_touch ((face c).pending i) j ≡ false) of.handle (has.parted i (stored_of of.store) ne (store_at c b of.store of.is));
+    }
+  where
+    kind_is : s.kinds id.0 ≡ Some (kind.Buffer len)
+    kind_is = ap s.kinds (sym of.handle) ∙ (h.objects (Buffer b) (stored_of of.store) (store_at c b of.store of.is)).slot.kind ∙ ap (λ n. Some (kind.Buffer n)) of.size
+
+-- What a call that ended early leaves
+
+-- the stores have the handles that they had
+abbrev pub KeepsHandles : Entries BufferStore → Entries BufferStore → Type 0
+KeepsHandles old new = (b : ℕ) → option_map (λ (x : BufferStore). x.handle) (entry b new) ≡ option_map (λ (x : BufferStore). x.handle) (entry b old)
+
+pub same_handles : (p q : CoreParts) → p ≡ q → KeepsHandles q.buffers p.buffers
+same_handles p q same b = ap (λ (c : CoreParts). option_map (λ (x : BufferStore). x.handle) (entry b c.buffers)) same
+
+pub same_stores : (old new : Entries BufferStore) → ((b : ℕ) → entry b new ≡ entry b old) → KeepsHandles old new
+same_stores old new same b = ap (option_map (λ (x : BufferStore). x.handle)) (same b)
+
+pub kept_then : (one two three : Entries BufferStore) → KeepsHandles one two → KeepsHandles two three → KeepsHandles one three
+kept_then one two three first second b = second b ∙ first b
+
+pub owns_kept : (old new : Entries BufferStore) (s : Link) → KeepsHandles old new → Owns (objects_of old) s → Owns (objects_of new) s
+owns_kept old new s keeps owns = record { owner = owns.owner; each = each }
+  where
+    had : (b : ℕ) (x : BufferStore) → (v w : Option BufferStore) → entry b old ≡ w → v ≡ Some x → option_map (λ (x : BufferStore). x.handle) v ≡ option_map (λ (x : BufferStore). x.handle) w → (y : BufferStore) × (entry b old ≡ Some y) × (y.handle ≡ x.handle)
+    had b x None w is bad same = cc
+    had b x (Some v) None is at same = cc
+    had b x (Some v) (Some y) is at same = (y, is, sym (same_Some _ _ same) ∙ ap (λ (z : BufferStore). z.handle) (same_Some _ _ at))
+
+    kept : (b : ℕ) (v y : BufferStore) → entry b old ≡ Some y → y.handle ≡ v.handle → StoredOwned s owns.owner (Buffer b) (stored_of v)
+    kept b v y is same =
+        let was : StoredOwned s owns.owner (Buffer b) (stored_of y) = owns.each (Buffer b) (stored_of y) (ap (option_map stored_of) is) in
+        record {
+          held = ap (λ (i : HandleId). s.held i.0) (sym same) ∙ was.held;
+          owned = ap (λ (i : HandleId). owns.owner i.0) (sym same) ∙ was.owned;
+          waiting = λ place id w none. cc;
+        }
+
+    at_buffer : (b : ℕ) (v : Option BufferStore) (x : Stored) → entry b new ≡ v → option_map stored_of v ≡ Some x → StoredOwned s owns.owner (Buffer b) x
+    at_buffer b None x is bad = cc
+    at_buffer b (Some v) x is at =
+        let from = had b v (entry b new) (entry b old) refl is (keeps b) in
+        subst (StoredOwned s owns.owner (Buffer b)) (same_Some _ _ at) (kept b v from.0 from.1 from.2)
+
+    each : (o : Object) (x : Stored) → objects_of new o ≡ Some x → StoredOwned s owns.owner o x
+    each (Buffer b) x at = at_buffer b (entry b new) x refl at
+    each (Texture t) x bad = cc
+    each (Renderbuffer r) x bad = cc

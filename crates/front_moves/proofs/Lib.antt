@@ -1,0 +1,14 @@
+pub mod BufferLaws
+pub mod BufferStores
+pub mod Faces
+pub mod Flushing
+pub mod Outcomes
+pub mod Preparing
+pub mod Reading
+pub mod Recordable
+pub mod Recorded
+pub mod Settling
+pub mod Uploads
+pub mod Waiting
+pub mod MovesInTurn
+pub mod EndedBuffers

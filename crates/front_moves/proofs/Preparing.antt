@@ -1,0 +1,169 @@
+-- What it comes to that a context is flushed only where something that is pending in it touches a buffer.
+use Rattle.std.proofs.Common.{◌≡◌, ◌≢◌, not, nat_eq, ℕ, ◌+◌, ◌*◌, ◌<◌, ◌≤◌, Bool, true, false, cond, List, [], length, refl, sym, ap, subst, ◌∙◌, arith, inl, inr}
+use Rattle.std.specs.Prelude.{◌⊎◌, Option, Some, None, IfSome, nat_lt, Result, Ok, Err, OnOk}
+use Rattle.std.specs.Option.{option_map}
+use Rattle.std.proofs.lemmas.Bool.{cases_Bool, cases_eq, cases_lt, cond-true, cond-false, ne_eqb}
+use Rattle.std.proofs.lemmas.Bool.Decides.{nat_tests}
+use Rattle.vk_types.specs.declared.stops.Stop.{Stop}
+use Rattle.vk_device.specs.Faults.{HasCause}
+use Rattle.tables.specs.Table.{entry}
+use Rattle.resource_use.specs.Uses.{number_of}
+use Rattle.buffer_helper.specs.Buffers.{BufferStore}
+use Rattle.queue_serials.specs.Indexes.{last_of}
+use Rattle.submit_queue.specs.Histories.{last_number}
+use Rattle.back_core.specs.Own.{batches_of, last_use}
+use Rattle.back_core.specs.Link.{Link}
+use Rattle.back_core.specs.Needs.{IsOfGroup}
+use Rattle.front_model.specs.Face.{Buffer, Face, nodes_touch, outline_at, view}
+use Rattle.front_model.specs.Stands.{no_hands, Holds, Moved, IsQuiet, use_of}
+use Rattle.front_model.proofs.Base.{put-same, put-other, put_at}
+use Rattle.front_model.proofs.LinkSteps.{own_or_not}
+use Rattle.front_moves.specs.Buffers.{stored_of}
+use Rattle.front_moves.specs.Core.{CoreParts, face, IsFlushed, OnlyFlushed, HasFlushedSome, IsApart, IsParted}
+use Rattle.front_moves.proofs.Faces.{last_own}
+
+-- what is pending in an index touches a buffer where the buffer's last use there is past the last number
+pub touched_is : (c : CoreParts) (s : Link) (index b : ℕ) (x : BufferStore) → Holds (face c) no_hands s → IsOfGroup c.indexes.group index →
+    entry b c.buffers ≡ Some x → nodes_touch ((face c).pending index) x.handle.0 ≡ nat_lt (last_of c.indexes index) (number_of x.uses index)
+touched_is c s index b x h own is = go (nodes_touch ((face c).pending index) x.handle.0) refl
+  where
+    id : ℕ
+    id = x.handle.0
+
+    used : number_of x.uses index ≡ use_of (face c) s id index
+    used = (h.objects (Buffer b) (stored_of x) (ap (option_map stored_of) is)).slot.used index
+
+    last : (face c).last index ≡ last_of c.indexes index
+    last = last_own c.indexes index own
+
+    go : (t : Bool) → nodes_touch ((face c).pending index) id ≡ t → t ≡ nat_lt (last_of c.indexes index) (number_of x.uses index)
+    go true t =
+        let u : number_of x.uses index ≡ (face c).last index + 1 = used ∙ cond-true (nodes_touch ((face c).pending index) id) ((face c).last index + 1) (last_use s.mine index id) t in
+        let l : (face c).last index ≡ last_of c.indexes index = last in
+        grind (arith, nat_tests)
+    go false t =
+        let u : number_of x.uses index ≡ last_use s.mine index id = used ∙ cond-false (nodes_touch ((face c).pending index) id) ((face c).last index + 1) (last_use s.mine index id) t in
+        let l : (face c).last index ≡ last_of c.indexes index = last in
+        let low : last_use s.mine index id ≤ last_number (batches_of s.mine) index = h.low index id in
+        let n : (face c).last index ≡ last_number (batches_of s.mine) index = h.last index own in
+        grind (arith, nat_tests)
+
+pub test_is : (c : CoreParts) (s : Link) (index b last used : ℕ) (x : BufferStore) → Holds (face c) no_hands s → IsOfGroup c.indexes.group index →
+    entry b c.buffers ≡ Some x → last ≡ last_of c.indexes index → used ≡ number_of x.uses index →
+    IfSome ((face c).objects (Buffer b)) (λ y. nodes_touch ((face c).pending index) y.handle ≡ nat_lt last used)
+test_is c s index b last used x h own is l u =
+    subst (λ o. IfSome (option_map stored_of o) (λ y. nodes_touch ((face c).pending index) y.handle ≡ nat_lt last used)) (sym is)
+    (touched_is c s index b x h own is ∙ ap (λ k. nat_lt k (number_of x.uses index)) (sym l) ∙ ap (λ k. nat_lt last k) (sym u))
+
+-- Results
+
+pub on_ok : {T E P Q : Type 0} (r : Result T E) → (P → Q) → OnOk r P → OnOk r Q
+on_ok (Ok v) f p = f p
+on_ok (Err e) f p = tt
+
+pub on_ok_both : {T E P Q R : Type 0} (r : Result T E) → (P → Q → R) → OnOk r P → OnOk r Q → OnOk r R
+on_ok_both (Ok v) f p q = f p q
+on_ok_both (Err e) f p q = tt
+
+-- a count of faults that rose before
+pub cause_later : {T : Type 0} (r : Result T Stop) (first before now : ℕ) → first ≤ before → HasCause before now r → HasCause first now r
+cause_later r first before now low cause = record {
+  later = let l : before ≤ now = cause.later in omega arith;
+  lost = λ e. let rose = cause.lost e in omega arith;
+}
+
+-- Some contexts were flushed
+
+pub some_flushed : (f g : Face) (s t : Link) (index : ℕ) → Moved g t (view f s) (outline_at f) (IsQuiet f s) → IsFlushed f g index → HasFlushedSome f g s t
+some_flushed f g s t index moved one = record {
+  moved = moved;
+  flushed = record {
+    pending = λ i. elim (cases_eq i index) [
+      | inl same ↦ inr (ap (λ p. p i) one.pending ∙ put_at f.pending index [] i same)
+      | inr other ↦ inl (ap (λ p. p i) one.pending ∙ put-other f.pending index [] i other)
+    ];
+    objects = one.objects;
+    group = one.group;
+  };
+}
+
+pub none_flushed : (f : Face) (s : Link) → Holds f no_hands s → HasFlushedSome f f s s
+none_flushed f s h = record {
+  moved = record { holds = h; view_is = refl; outlines_are = refl; still = λ o quiet. quiet };
+  flushed = record { pending = λ i. inl refl; objects = refl; group = refl };
+}
+
+pub flushed_more : (f g h : Face) (s t u : Link) → HasFlushedSome f g s t → HasFlushedSome g h t u → HasFlushedSome f h s u
+flushed_more f g h s t u first second = record {
+  moved = record {
+    holds = second.moved.holds;
+    view_is = second.moved.view_is ∙ first.moved.view_is;
+    outlines_are = second.moved.outlines_are ∙ first.moved.outlines_are;
+    still = λ o quiet. second.moved.still o (first.moved.still o quiet);
+  };
+  flushed = record {
+    pending = λ i. go i (first.flushed.pending i) (second.flushed.pending i);
+    objects = second.flushed.objects ∙ first.flushed.objects;
+    group = second.flushed.group ∙ first.flushed.group;
+  };
+}
+  where
+    go : (i : ℕ) → (g.pending i ≡ f.pending i) ⊎ (g.pending i ≡ []) → (h.pending i ≡ g.pending i) ⊎ (h.pending i ≡ []) → (h.pending i ≡ f.pending i) ⊎ (h.pending i ≡ [])
+    go i (inl p) (inl q) = inl (q ∙ p)
+    go i (inr p) (inl q) = inr (q ∙ p)
+    go i one (inr q) = inr q
+
+-- Nothing that is pending in an index touches the buffer
+
+pub apart_flushed : (f g : Face) (index b : ℕ) → IsFlushed f g index → IsApart g index b
+apart_flushed f g index b one x at = ap (λ p. nodes_touch (p index) x.handle) one.pending ∙ ap (λ nodes. nodes_touch nodes x.handle) (put-same f.pending index [])
+
+pub apart_by_test : (f : Face) (index b : ℕ) (test : Bool) → IfSome (f.objects (Buffer b)) (λ x. nodes_touch (f.pending index) x.handle ≡ test) → test ≡ false → IsApart f index b
+apart_by_test f index b test is none x at = subst (λ o. IfSome o (λ y. nodes_touch (f.pending index) y.handle ≡ test)) at is ∙ none
+
+pub apart_more : (f g : Face) (i b : ℕ) → OnlyFlushed f g → IsApart f i b → IsApart g i b
+apart_more f g i b some apart x at = go (some.pending i)
+  where
+    go : (g.pending i ≡ f.pending i) ⊎ (g.pending i ≡ []) → nodes_touch (g.pending i) x.handle ≡ false
+    go (inl same) = ap (λ nodes. nodes_touch nodes x.handle) same ∙ apart x (ap (λ o. o (Buffer b)) (sym some.objects) ∙ at)
+    go (inr none) = ap (λ nodes. nodes_touch nodes x.handle) none
+
+-- the same of each index of the group below a place, but for one
+abbrev pub AreApart : Face → ℕ → ℕ → ℕ → Type 0
+AreApart f index b place = (i : ℕ) → IsOfGroup f.group i → i < 8 * f.group + place → i ≢ index → IsApart f i b
+
+pub none_apart : (f : Face) (index b : ℕ) → AreApart f index b 0
+none_apart f index b i own below ne = let low : 8 * f.group ≤ i = own.0 in absurd (omega arith)
+
+pub apart_kept : (f g : Face) (index b place : ℕ) → OnlyFlushed f g → AreApart f index b place → AreApart g index b place
+apart_kept f g index b place some apart i own below ne =
+    apart_more f g i b some (apart i (subst (λ n. IsOfGroup n i) some.group own) (subst (λ n. i < 8 * n + place) some.group below) ne)
+
+pub apart_then : (f : Face) (index b place other : ℕ) → other ≡ 8 * f.group + place → AreApart f index b place → (other ≢ index → IsApart f other b) → AreApart f index b (place + 1)
+apart_then f index b place other at apart here i own below ne = elim (cases_lt i (8 * f.group + place)) [
+  | inl low ↦ apart i own low ne
+  | inr high ↦
+      let same : i ≡ other = omega arith in
+      subst (λ j. IsApart f j b) (sym same) (here (λ e. ne (same ∙ e)))
+]
+
+pub all_apart : (f : Face) (s : Link) (index b : ℕ) → Holds f no_hands s → AreApart f index b 8 → IsParted f index b
+all_apart f s index b h apart i x ne at = go (own_or_not f.group i)
+  where
+    go : IsOfGroup f.group i ⊎ (IsOfGroup f.group i → ⊥) → nodes_touch (f.pending i) x.handle ≡ false
+    go (inl own) = apart i own own.1 ne x at
+    go (inr far) = ap (λ nodes. nodes_touch nodes x.handle) (h.of_group i far)
+
+pub parted_more : (f g : Face) (index b : ℕ) → OnlyFlushed f g → IsParted f index b → IsParted g index b
+parted_more f g index b some parted i x ne at = apart_more f g i b some (λ y is. parted i y ne is) x at
+
+pub same_by_test : (a b : ℕ) (test : Bool) → test ≡ not (nat_eq a b) → test ≡ false → a ≡ b
+same_by_test a b test is none = elim (cases_eq a b) [
+  | inl same ↦ same
+  | inr other ↦ let e : nat_eq a b ≡ false = ne_eqb a b other in let no : true ≡ false = sym (ap not e) ∙ sym is ∙ none in cc
+]
+
+pub few_flushed : (f g : Face) (index : ℕ) → IsFlushed f g index → length (g.pending index) < 1024
+few_flushed f g index one =
+    let none : length (g.pending index) ≡ 0 = ap (λ p. length (p index)) one.pending ∙ ap length (put-same f.pending index []) in
+    omega arith

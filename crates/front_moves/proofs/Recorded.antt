@@ -1,0 +1,161 @@
+-- The front after nodes on buffers were added and the stores of the buffers noted their use.
+use mathlib.Core.Path.{fun_ext}
+use Rattle.std.proofs.Common.{◌≡◌, ◌≢◌, ℕ, ◌+◌, ◌-◌, ◌*◌, ◌<◌, ◌≤◌, ◌==◌, max, Bool, true, false, cond, List, [], ◌++◌, length, refl, sym, ◌∙◌, ap, subst, arith, inl, inr}
+use Rattle.std.specs.Prelude.{◌⊎◌, ◌&&◌, nat_le, nat_lt, Option, Some, None, slice_set, slice_index_or}
+use Rattle.std.specs.Option.{option_map}
+use Rattle.std.proofs.lemmas.Bool.{cases_eq, cond-true, cond-false, eq-eqb, ne_eqb, and_from, and_parts, and_right, le-leb, lt-ltb, leb-true}
+use Rattle.std.proofs.lemmas.List.{get_or-set_same, get_or-set_other}
+use Rattle.cells.specs.Contents.{in_range}
+use Rattle.vk_types.specs.declared.handles.Kind.TheVariants as kind
+use Rattle.vk_types.specs.declared.ops.Node.{Node}
+use Rattle.vk_types.specs.declared.batches.QueueSerial.{QueueSerial}
+use Rattle.queue_serials.specs.Indexes.{IndexTable}
+use Rattle.tables.specs.Table.{Entries, entry}
+use Rattle.resource_use.specs.Uses.{number_of}
+use Rattle.resource_use.proofs.Noting.{number_of-noted}
+use Rattle.buffer_helper.specs.Buffers.{BufferStore}
+use Rattle.submit_queue.specs.Histories.{last_number}
+use Rattle.back_core.specs.Own.{batches_of, last_use}
+use Rattle.back_core.specs.Link.{Link, put}
+use Rattle.back_core.specs.Needs.{IsOfGroup}
+use Rattle.front_model.specs.Face.{Object, Buffer, Texture, Renderbuffer, Stored, Face, outline, outline_at, nodes_touch}
+use Rattle.front_model.specs.Stands.{Hands, Holds, use_of}
+use Rattle.front_model.specs.Steps.{noted_store, with_nodes}
+use Rattle.front_model.proofs.Base.{put-same, put-other}
+use Rattle.front_moves.specs.Buffers.{stored_of, objects_of, with_use}
+use Rattle.front_moves.specs.Core.{CoreParts, face, last_in, pending_in}
+use Rattle.front_moves.specs.Recording.{IsNextSerial, IsRecorded}
+
+-- What is pending
+
+pending_at : (group : ℕ) (lists : List (List Node)) (index place : ℕ) → IsOfGroup group index → place + 8 * group ≡ index → pending_in group lists index ≡ slice_index_or lists place []
+pending_at group lists index place own is =
+    let at : index - 8 * group ≡ place = omega (arith, is) in
+    cond-true (in_range (8 * group) 8 index) (slice_index_or lists (index - 8 * group) []) []
+    (and_from (nat_le (8 * group) index) (nat_lt index (8 * group + 8)) (le-leb (8 * group) index own.0) (lt-ltb index (8 * group + 8) own.1))
+    ∙ ap (λ k. slice_index_or lists k []) at
+
+pending_recorded : (group : ℕ) (lists : List (List Node)) (index place : ℕ) (nodes : List Node) → IsOfGroup group index → place + 8 * group ≡ index → length lists ≡ 8 →
+    pending_in group (slice_set lists place (slice_index_or lists place [] ++ nodes)) ≡ put (pending_in group lists) index (pending_in group lists index ++ nodes)
+pending_recorded group lists index place nodes own is eight = fun_ext (λ i. go i (cases_eq i index))
+  where
+    new : List (List Node)
+    new = slice_set lists place (slice_index_or lists place [] ++ nodes)
+
+    both : List Node
+    both = pending_in group lists index ++ nodes
+
+    here : pending_in group new index ≡ both
+    here =
+        pending_at group new index place own is
+        ∙ get_or-set_same lists place (slice_index_or lists place [] ++ nodes) [] (let last : index < 8 * group + 8 = own.1 in omega (arith, last, is, eight))
+        ∙ ap (λ l. l ++ nodes) (sym (pending_at group lists index place own is))
+
+    there : (i : ℕ) → i ≢ index → (t : Bool) → in_range (8 * group) 8 i ≡ t → cond t (slice_index_or new (i - 8 * group) []) [] ≡ cond t (slice_index_or lists (i - 8 * group) []) []
+    there i ne true inside =
+        let first : 8 * group ≤ i = leb-true (8 * group) i (and_parts (nat_le (8 * group) i) (nat_lt i (8 * group + 8)) inside).0 in
+        get_or-set_other lists place (i - 8 * group) (slice_index_or lists place [] ++ nodes) [] (λ e. ne (omega (arith, e, is, first)))
+    there i ne false inside = refl
+
+    go : (i : ℕ) → (i ≡ index) ⊎ (i ≡ index → ⊥) → pending_in group new i ≡ put (pending_in group lists) index both i
+    go i (inl e) = subst (λ k. pending_in group new k ≡ put (pending_in group lists) index both k) (sym e) (here ∙ sym (put-same (pending_in group lists) index both))
+    go i (inr ne) = there i ne (in_range (8 * group) 8 i) refl ∙ sym (put-other (pending_in group lists) index both i ne)
+
+-- Uses
+
+-- a noted number that is above the one that was there
+uses_noted : (x : BufferStore) (serial : QueueSerial) (i : ℕ) → number_of x.uses serial.index ≤ serial.number → number_of (with_use serial x).uses i ≡ cond (i == serial.index) serial.number (number_of x.uses i)
+uses_noted x serial i low = number_of-noted x.uses serial i ∙ go (cases_eq i serial.index)
+  where
+    go : (i ≡ serial.index) ⊎ (i ≡ serial.index → ⊥) → cond (serial.index == i) (max (number_of x.uses i) serial.number) (number_of x.uses i) ≡ cond (i == serial.index) serial.number (number_of x.uses i)
+    go (inl e) =
+        let low_here : number_of x.uses i ≤ serial.number = subst (λ k. number_of x.uses k ≤ serial.number) (sym e) low in
+        let most : max (number_of x.uses i) serial.number ≡ serial.number = omega (arith, low_here) in
+        cond-true (serial.index == i) (max (number_of x.uses i) serial.number) (number_of x.uses i) (eq-eqb serial.index i (sym e))
+        ∙ most ∙ sym (cond-true (i == serial.index) serial.number (number_of x.uses i) (eq-eqb i serial.index e))
+    go (inr ne) =
+        cond-false (serial.index == i) (max (number_of x.uses i) serial.number) (number_of x.uses i) (ne_eqb serial.index i (λ e. ne (sym e)))
+        ∙ sym (cond-false (i == serial.index) serial.number (number_of x.uses i) (ne_eqb i serial.index ne))
+
+and_true : (b : Bool) → (b && true) ≡ b
+and_true true = refl
+and_true false = refl
+
+store_noted : (x : BufferStore) (serial : QueueSerial) (nodes : List Node) (t : Bool) → nodes_touch nodes x.handle.0 ≡ t → number_of x.uses serial.index ≤ serial.number →
+    option_map stored_of (cond t (Some (with_use serial x)) (Some x)) ≡ Some (noted_store serial.index serial.number nodes (stored_of x))
+store_noted x serial nodes t touch low = go t touch
+  where
+    with_uses : (ℕ → ℕ) → Option Stored
+    with_uses u = Some (record { handle = x.handle.0; slot = record { kind = kind.Buffer x.size; used = u }; waiting = [] })
+
+    go : (t : Bool) → nodes_touch nodes x.handle.0 ≡ t → option_map stored_of (cond t (Some (with_use serial x)) (Some x)) ≡ Some (noted_store serial.index serial.number nodes (stored_of x))
+    go true touch = ap with_uses (fun_ext (λ i. uses_noted x serial i low
+        ∙ sym (ap (λ b. cond b serial.number (number_of x.uses i)) (ap (λ b. (i == serial.index) && b) touch ∙ and_true (i == serial.index)))))
+    go false touch = ap with_uses (fun_ext (λ i. sym (cond-false ((i == serial.index) && nodes_touch nodes x.handle.0) serial.number (number_of x.uses i) (and_right (i == serial.index) (nodes_touch nodes x.handle.0) touch))))
+
+objects_recorded : (old new : Entries BufferStore) (serial : QueueSerial) (nodes : List Node) (touched : ℕ → Bool) →
+    ((b : ℕ) → entry b new ≡ cond (touched b) (option_map (with_use serial) (entry b old)) (entry b old)) →
+    ((b : ℕ) (x : BufferStore) → entry b old ≡ Some x → nodes_touch nodes x.handle.0 ≡ touched b) →
+    ((b : ℕ) (x : BufferStore) → entry b old ≡ Some x → number_of x.uses serial.index ≤ serial.number) →
+    objects_of new ≡ (λ o. option_map (noted_store serial.index serial.number nodes) (objects_of old o))
+objects_recorded old new serial nodes touched are touch low = fun_ext go
+  where
+    none : (t : Bool) → option_map stored_of (cond t None None) ≡ None
+    none true = refl
+    none false = refl
+
+    at : (b : ℕ) (v : Option BufferStore) → entry b old ≡ v → option_map stored_of (cond (touched b) (option_map (with_use serial) v) v) ≡ option_map (noted_store serial.index serial.number nodes) (option_map stored_of v)
+    at b None is = none (touched b)
+    at b (Some x) is = store_noted x serial nodes (touched b) (touch b x is) (low b x is)
+
+    go : (o : Object) → objects_of new o ≡ option_map (noted_store serial.index serial.number nodes) (objects_of old o)
+    go (Buffer b) = ap (option_map stored_of) (are b) ∙ at b (entry b old) refl
+    go (Texture t) = refl
+    go (Renderbuffer r) = refl
+
+-- a last use is at most the next number
+use_low : (f : Face) (hands : Hands) (s : Link) (index id : ℕ) → Holds f hands s → IsOfGroup f.group index → use_of f s id index ≤ f.last index + 1
+use_low f hands s index id h own = go (nodes_touch (f.pending index) id)
+  where
+    go : (t : Bool) → cond t (f.last index + 1) (last_use s.mine index id) ≤ f.last index + 1
+    go true = omega arith
+    go false =
+        let low : last_use s.mine index id ≤ last_number (batches_of s.mine) index = h.low index id in
+        let last : f.last index ≡ last_number (batches_of s.mine) index = h.last index own in
+        omega (arith, low, last)
+
+pub face_recorded : (c d : CoreParts) (hands : Hands) (s : Link) (place : ℕ) (nodes : List Node) (serial : QueueSerial) (touched : ℕ → Bool) → Holds (face c) hands s → IsNextSerial c place serial → IsRecorded c d place nodes serial touched →
+    ((b : ℕ) (x : BufferStore) → entry b c.buffers ≡ Some x → nodes_touch nodes x.handle.0 ≡ touched b) → face d ≡ with_nodes (face c) serial.index nodes
+face_recorded c d hands s place nodes serial touched h next r touch =
+    ap (λ i. record { group = i.group; last = last_in i; pending = pending_in i.group d.pending; objects = objects_of d.buffers }) r.indexes
+    ∙ ap (λ p. record { group = c.indexes.group; last = last_in c.indexes; pending = p; objects = objects_of d.buffers })
+    (ap (pending_in c.indexes.group) r.pending ∙ pending_recorded c.indexes.group c.pending serial.index place nodes next.group next.place_is r.eight)
+    ∙ ap (λ o. record { group = c.indexes.group; last = last_in c.indexes; pending = put (pending_in c.indexes.group c.pending) serial.index (pending_in c.indexes.group c.pending serial.index ++ nodes); objects = o })
+    (objects_recorded c.buffers d.buffers serial nodes touched r.buffers touch low
+    ∙ ap (λ n. λ o. option_map (noted_store serial.index n nodes) (objects_of c.buffers o)) next.next)
+  where
+    low : (b : ℕ) (x : BufferStore) → entry b c.buffers ≡ Some x → number_of x.uses serial.index ≤ serial.number
+    low b x is =
+        let used : number_of x.uses serial.index ≡ use_of (face c) s x.handle.0 serial.index = (h.objects (Buffer b) (stored_of x) (ap (option_map stored_of) is)).slot.used serial.index in
+        let most : use_of (face c) s x.handle.0 serial.index ≤ (face c).last serial.index + 1 = use_low (face c) hands s serial.index x.handle.0 h next.group in
+        let number : serial.number ≡ (face c).last serial.index + 1 = next.next in
+        omega (arith, used, most, number)
+
+-- Outlines are as before
+
+pub outlines_recorded : (f : Face) (index : ℕ) (nodes : List Node) → outline_at (with_nodes f index nodes) ≡ outline_at f
+outlines_recorded f index nodes = fun_ext (λ o. go (f.objects o))
+  where
+    go : (v : Option Stored) → option_map outline (option_map (noted_store index (f.last index + 1) nodes) v) ≡ option_map outline v
+    go None = refl
+    go (Some b) = refl
+
+-- What was pushed and noted is recorded
+
+pub recorded_from : (old : CoreParts) (indexes : IndexTable) (was now : List (List Node)) (had have : Entries BufferStore) (place : ℕ) (nodes : List Node) (serial : QueueSerial) (touched : ℕ → Bool) →
+    record { indexes = indexes; pending = was; buffers = had } ≡ old → length was ≡ 8 → now ≡ slice_set was place (slice_index_or was place [] ++ nodes) →
+    ((b : ℕ) → entry b have ≡ cond (touched b) (option_map (with_use serial) (entry b had)) (entry b had)) →
+    IsRecorded old (record { indexes = indexes; pending = now; buffers = have }) place nodes serial touched
+recorded_from old indexes was now had have place nodes serial touched is eight pending buffers =
+    subst (λ (p : CoreParts). IsRecorded p (record { indexes = indexes; pending = now; buffers = have }) place nodes serial touched) is
+    (record { indexes = refl; eight = eight; pending = pending; buffers = buffers })

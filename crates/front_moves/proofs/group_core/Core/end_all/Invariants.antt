@@ -1,0 +1,11 @@
+use Rattle.std.proofs.Common.{◌≤◌}
+use Rattle.std.specs.Prelude.{take}
+use Rattle.front_moves.specs.Core.{face}
+use Rattle.front_moves.specs.Ending.{HasEnded}
+use Rattle.front_moves.proofs.group_core.Core.end_all.Given as goal
+
+abbrev pub invariant-loop-buffer : goal.invariant-loop-buffer
+invariant-loop-buffer g l = record {
+  ended : HasEnded (face l.fn.self) (face l.self) (g.L.BackLink.state l.fn.link) (g.L.BackLink.state l.link) (take l.buffer-index l.buffers);
+  faults : g.L.BackLink.faults l.fn.link ≤ g.L.BackLink.faults l.link;
+}

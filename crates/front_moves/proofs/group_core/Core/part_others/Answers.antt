@@ -1,0 +1,35 @@
+use Rattle.std.proofs.Common.{◌≡◌, ℕ, ◌*◌, ◌+◌, sym, ap, ◌∙◌, arith}
+use Rattle.back_core.specs.Link.{Link}
+use Rattle.front_moves.specs.Core.{CoreParts, face, HasFlushedSome}
+use Rattle.front_moves.proofs.Preparing.{flushed_more, apart_kept, apart_then, same_by_test}
+use Rattle.front_moves.proofs.group_core.Core.part_others.Goals as goal
+use Rattle.front_moves.proofs.group_core.Core.part_others.Goals.{then-ne+in-Ok, else-ne}
+
+pub loop-place-preserved : goal.loop-place-preserved
+loop-place-preserved g c =
+    let first : CoreParts = c.args.self.now in
+    let k : CoreParts = c.loop-place.self in
+    let place : ℕ = c.loop-place.place in
+    let other : ℕ = c.new-other.result in
+    let group : c.self.inside.group ≡ k.indexes.group = c.self.invariant.0 ∙ ap (λ (x : CoreParts). x.indexes.group) c.self.view_is in
+    let at : other ≡ 8 * (face k).group + place = c.new-other.ensures ∙ ap (λ n. 8 * n + place) group in
+    elim c.if-ne.branch [
+      | then-ne+in-Ok w ↦
+          let d : CoreParts = w.part.new.self in
+          let before : Link = g.L.BackLink.state c.loop-place.link in
+          let now : Link = g.L.BackLink.state w.part.new.link in
+          let some : HasFlushedSome (face k) (face d) before now = w.in-Ok.ensures.some in
+          let also : other ≡ 8 * (face d).group + place = at ∙ ap (λ n. 8 * n + place) (sym some.flushed.group) in
+          rw (w.self-is, w.link-is) (record {
+            some = flushed_more (face first) (face k) (face d) (g.L.BackLink.state c.args.link.now) before now c.loop-place.invariant.some some;
+            apart = apart_then (face d) c.args.index c.args.buffer place other also (apart_kept (face k) (face d) c.args.index c.args.buffer place some.flushed c.loop-place.invariant.apart) (λ ne. w.in-Ok.ensures.apart);
+            faults = let low = c.loop-place.invariant.faults in let later = w.part.ensures.cause.later in omega (arith, low, later);
+          })
+      | else-ne w ↦
+          let same : other ≡ c.args.index = same_by_test other c.args.index c.ne.result c.ne.ensures w.if-ne.false in
+          rw (w.self-is, w.link-is) (record {
+            some = c.loop-place.invariant.some;
+            apart = apart_then (face k) c.args.index c.args.buffer place other at c.loop-place.invariant.apart (λ ne. absurd (ne same));
+            faults = c.loop-place.invariant.faults;
+          })
+    ]

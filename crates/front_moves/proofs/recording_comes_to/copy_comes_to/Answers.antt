@@ -1,0 +1,53 @@
+use Rattle.std.proofs.Common.{◌≡◌, ℕ, ◌==◌, refl, sym, ◌∙◌, ap, subst}
+use Rattle.std.specs.Prelude.{◌||◌, Some}
+use Rattle.vk_types.specs.declared.handles.HandleId.{HandleId}
+use Rattle.tables.specs.Table.{entry}
+use Rattle.buffer_helper.specs.Buffers.{BufferStore}
+use Rattle.front_model.specs.Face.{Buffer, Face, outline_at, view, nodes_touch}
+use Rattle.front_model.specs.Stands.{Holds, IsQuiet, no_hands}
+use Rattle.front_model.specs.Steps.{MayRecord, with_nodes, fenced}
+use Rattle.front_moves.specs.Buffers.{stored_of}
+use Rattle.front_moves.specs.Core.{CoreParts, face}
+use Rattle.front_moves.proofs.Recorded.{face_recorded, outlines_recorded}
+use Rattle.front_moves.proofs.Recordable.{copy_node, copy_touches, copy_no_layout, copy_may, IsFree}
+use Rattle.front_moves.proofs.BufferStores.{IsStore, store_of, store_at, Distinct, handle_is, other_handle, buffer_free}
+use Rattle.front_moves.proofs.recording_comes_to.copy_comes_to.Goals as goal
+
+-- stores of one buffer are one object
+one_store : (c : CoreParts) (a b : ℕ) (from to : HandleId) (m n : ℕ) → Distinct c → IsStore c a from m → IsStore c b to n → from.0 ≡ to.0 → a ≡ b
+one_store c a b from to m n distinct x y e =
+    let same : Buffer a ≡ Buffer b = distinct (Buffer a) (Buffer b) (stored_of x.store) (stored_of y.store) (store_at c a x.store x.is) (store_at c b y.store y.is) (x.handle ∙ e ∙ sym y.handle) in
+    cc
+
+pub returns : goal.returns
+returns l = record {
+  moved = λ c d s place src src_at dst dst_at size src_len dst_len serial from to h next at_src at_dst src_in dst_in some apart recorded.
+      let f : Face = face c in
+      let nodes = fenced (copy_node from src_at to dst_at size) in
+      let distinct : Distinct c = λ o q x y. l.steps_may.ensures.distinct f no_hands s o q x y h in
+      let a : IsStore c src from src_len = store_of c serial.index src from src_len at_src in
+      let b : IsStore c dst to dst_len = store_of c serial.index dst to dst_len at_dst in
+      let free_a : IsFree f no_hands s serial.index from src_at size = buffer_free c no_hands s serial.index src from src_len src_at size h at_src a some src_in in
+      let free_b : IsFree f no_hands s serial.index to dst_at size = buffer_free c no_hands s serial.index dst to dst_len dst_at size h at_dst b some dst_in in
+      let may : MayRecord f no_hands s serial.index nodes =
+      copy_may f no_hands s serial.index from src_at to dst_at size next.group next.few
+      (l.fenced_nodes_stay_sound.ensures.node _ (copy_node from src_at to dst_at size) h.sound (l.fenced_nodes_stay_sound.ensures.one_queue f s) h.barriers (copy_no_layout from src_at to dst_at size) refl)
+      some free_a free_b (λ e. apart (one_store c src dst from to src_len dst_len distinct a b e)) in
+      let touch : (k : ℕ) (x : BufferStore) → entry k c.buffers ≡ Some x → nodes_touch nodes x.handle.0 ≡ ((k == src) || (k == dst)) =
+      λ k x is. copy_touches from src_at to dst_at size x.handle.0
+      ∙ ap (λ t. t || (to.0 == x.handle.0)) (handle_is c k src from src_len x distinct a is)
+      ∙ ap (λ t. (k == src) || t) (handle_is c k dst to dst_len x distinct b is) in
+      let same : face d ≡ with_nodes f serial.index nodes = face_recorded c d no_hands s place nodes serial (λ k. (k == src) || (k == dst)) h next recorded touch in
+      record {
+        holds = subst (λ g. Holds g no_hands s) (sym same) (l.steps_hold.ensures.records f no_hands s serial.index nodes h may);
+        view_is = ap (λ g. view g s) same
+            ∙ l.front_steps_show.ensures.copies f no_hands s serial.index (Buffer src) (Buffer dst) (stored_of a.store) (stored_of b.store) from to src_at dst_at size h may
+            (store_at c src a.store a.is) refl a.handle (store_at c dst b.store b.is) refl b.handle free_a.end free_b.end;
+        outlines_are = ap outline_at same ∙ outlines_recorded f serial.index nodes;
+        still = λ o stays. let quiet : IsQuiet f s o = stays.0.0 in
+            subst (λ g. IsQuiet g s o) (sym same) (l.quiet_objects_stay.ensures.records f s o serial.index nodes quiet
+            (copy_touches from src_at to dst_at size quiet.stored.handle
+            ∙ ap (λ t. t || (to.0 == quiet.stored.handle)) (other_handle c src from src_len o quiet.stored distinct a quiet.is stays.1)
+            ∙ other_handle c dst to dst_len o quiet.stored distinct b quiet.is stays.0.1));
+      };
+}

@@ -1,0 +1,116 @@
+-- The front without its history, as a record of plain values.
+use Rattle.std.specs.Prelude.{◌≡◌, ◌≢◌, ℕ, ◌+◌, ◌-◌, ◌≤◌, ◌*◌, ◌==◌, ◌⊎◌, false, if◌then◌else◌, Option, Some, None, List, [], ◌∷◌, ◌++◌, slice_index_or}
+use Rattle.std.specs.Option.{option_map}
+use Rattle.cells.specs.Contents.{UNDEFINED, cell_at, in_range}
+use Rattle.vk_types.specs.declared.handles.HandleId.{HandleId}
+use Rattle.vk_types.specs.declared.handles.Kind.TheVariants as kind
+use Rattle.vk_types.specs.declared.ops.Node.{Node}
+use Rattle.tables.specs.Table.{Entries}
+use Rattle.queue_serials.specs.Indexes.{IndexTable, last_of}
+use Rattle.buffer_helper.specs.Buffers.{BufferStore}
+use Rattle.vk_model.specs.Log.{commands}
+use Rattle.back_core.specs.Own.{log_of, last_use, IsReadable}
+use Rattle.back_core.specs.Link.{Link, put}
+use Rattle.front_model.specs.Face.{Object, Buffer, Stored, Outline, Face, outline_at, nodes_touch, recorded, view}
+use Rattle.front_model.specs.Stands.{Hands, no_hands, Holds, Moved, IsQuiet}
+use Rattle.front_model.specs.Steps.{fresh_slot, full_barrier}
+use Rattle.front_model.specs.Wanted.{buffer_kind}
+use Rattle.front_moves.specs.Buffers.{objects_of}
+
+-- the eight indexes of the group with their last numbers, what is pending in each, and the buffers that have a store
+pub record CoreParts : Type 0 where
+  pub indexes : IndexTable
+  pub pending : List (List Node)
+  pub buffers : Entries BufferStore
+
+-- the last number of an index of the group
+abbrev pub last_in : IndexTable → ℕ → ℕ
+last_in indexes i = if in_range (8 * indexes.group) 8 i then last_of indexes i else 0
+
+-- what is pending in an index of the group
+abbrev pub pending_in : ℕ → List (List Node) → ℕ → List Node
+pending_in group lists i = if in_range (8 * group) 8 i then slice_index_or lists (i - 8 * group) [] else []
+
+-- the front that these make
+abbrev pub face : CoreParts → Face
+face c = record {
+  group = c.indexes.group;
+  last = last_in c.indexes;
+  pending = pending_in c.indexes.group c.pending;
+  objects = objects_of c.buffers;
+}
+
+-- nothing is pending in an index any more, and what is pending in others and the objects are as before
+pub record IsFlushed (old new : Face) (index : ℕ) : Type 0 where
+  pub pending : new.pending ≡ put old.pending index []
+  pub objects : new.objects ≡ old.objects
+  pub group : new.group ≡ old.group
+
+-- A context was flushed: what is shown and quiet is as before, and what was pending in it is at the end of the log.
+pub record HasFlushed (old new : Face) (before now : Link) (index : ℕ) : Type 0 where
+  pub moved : Moved new now (view old before) (outline_at old) (IsQuiet old before)
+  pub flushed : IsFlushed old new index
+  pub log : log_of now.mine ≡ log_of before.mine ++ commands 0 (old.pending index)
+
+-- some contexts were flushed, and nothing else has changed
+pub record OnlyFlushed (old new : Face) : Type 0 where
+  pub pending : (i : ℕ) → (new.pending i ≡ old.pending i) ⊎ (new.pending i ≡ [])
+  pub objects : new.objects ≡ old.objects
+  pub group : new.group ≡ old.group
+
+-- nothing that is pending in an index touches the buffer
+abbrev pub IsApart : Face → ℕ → ℕ → Type 0
+IsApart f index b = (x : Stored) → f.objects (Buffer b) ≡ Some x → nodes_touch (f.pending index) x.handle ≡ false
+
+-- nothing that is pending in another context touches the buffer, so that this one may record a node on it
+abbrev pub IsParted : Face → ℕ → ℕ → Type 0
+IsParted f index b = (i : ℕ) (x : Stored) → i ≢ index → f.objects (Buffer b) ≡ Some x → nodes_touch (f.pending i) x.handle ≡ false
+
+-- Some contexts were flushed: what is shown and quiet is as before.
+pub record HasFlushedSome (old new : Face) (before now : Link) : Type 0 where
+  pub moved : Moved new now (view old before) (outline_at old) (IsQuiet old before)
+  pub flushed : OnlyFlushed old new
+
+-- the buffer has a store of this size, and nothing waits on it
+abbrev pub HasStore : Face → ℕ → ℕ → Type 0
+HasStore f b size = outline_at f (Buffer b) ≡ Some (record { kind = kind.Buffer size; waiting = [] })
+
+-- another object is quiet that was so
+abbrev pub IsQuietBut : Face → Link → ℕ → Object → Type 0
+IsQuietBut f s b o = IsQuiet f s o × (o ≢ Buffer b)
+
+-- the outline of a buffer that has a store of so many bytes, and none of no bytes
+abbrev pub outline_of_size : ℕ → Option Outline
+outline_of_size size = option_map (λ k. record { kind = k; waiting = [] }) (buffer_kind size)
+
+-- the cells of a new store: these bytes, or none that is defined
+abbrev pub new_cells : Option (List ℕ) → ℕ → ℕ
+new_cells None = λ p. UNDEFINED
+new_cells (Some bytes) = cell_at bytes
+
+-- one handle in hand, of a buffer that nothing has used
+abbrev pub in_hand : ℕ → ℕ → Hands
+in_hand id size = put no_hands id (Some (fresh_slot (kind.Buffer size)))
+
+-- a handle that was just made is in hand: it has these cells, and all else is as before
+pub record HasFresh (f : Face) (s t : Link) (id size : ℕ) (bytes : Option (List ℕ)) : Type 0 where
+  pub holds : Holds f (in_hand id size) t
+  pub view_is : view f t ≡ view f s
+  pub still : (o : Object) → IsQuiet f s o → IsQuiet f t o
+  pub has : recorded f t id ≡ new_cells bytes
+
+-- nothing that is pending touches the buffer
+abbrev pub IsUntouched : Face → ℕ → Type 0
+IsUntouched f b = (i : ℕ) (x : Stored) → f.objects (Buffer b) ≡ Some x → nodes_touch (f.pending i) x.handle ≡ false
+
+-- each batch that touches the buffer is known to be retired
+abbrev pub IsRetired : Face → Link → ℕ → Type 0
+IsRetired f s b = (i : ℕ) (x : Stored) → f.objects (Buffer b) ≡ Some x → last_use s.mine i x.handle ≤ s.done i
+
+-- what nodes wrote into the buffer was made known to the host
+abbrev pub IsHandedOver : Face → Link → ℕ → Type 0
+IsHandedOver f s b = (at size : ℕ) (x : Stored) → f.objects (Buffer b) ≡ Some x → IsReadable (log_of s.mine) x.handle at size
+
+-- a barrier of the buffer is the last node that is pending in an index
+abbrev pub EndsWithBarrier : Face → ℕ → ℕ → Type 0
+EndsWithBarrier f index b = (x : Stored) → f.objects (Buffer b) ≡ Some x → (nodes : List Node) × (id : HandleId) × (f.pending index ≡ nodes ++ full_barrier id ∷ []) × (id.0 ≡ x.handle)

@@ -1,0 +1,32 @@
+-- What is left where some buffers were ended, and where a front was closed.
+use Rattle.std.specs.Prelude.{◌≡◌, ℕ, ◌==◌, Bool, false, if◌then◌else◌, Some, None, List, [], ◌≤◌}
+use Rattle.std.specs.List.{list_any}
+use Rattle.cells.specs.Contents.{UNDEFINED}
+use Rattle.vk_types.specs.declared.batches.QueueSerial.{QueueSerial}
+use Rattle.resource_use.specs.Uses.{number_of}
+use Rattle.submit_queue.specs.Histories.{last_number}
+use Rattle.back_core.specs.Own.{batches_of}
+use Rattle.back_core.specs.Link.{Link}
+use Rattle.front_model.specs.Face.{Object, Buffer, Texture, Renderbuffer, Face, outline_at, view}
+use Rattle.front_model.specs.Stands.{Holds, no_hands, IsQuiet}
+
+-- the object is one of these buffers
+abbrev pub is_ended : List ℕ → Object → Bool
+is_ended ended (Buffer b) = list_any (λ c. b == c) ended
+is_ended ended (Texture t) = false
+is_ended ended (Renderbuffer r) = false
+
+-- these buffers have no store any more, and what else is shown and quiet is as before
+pub record HasEnded (f g : Face) (s t : Link) (ended : List ℕ) : Type 0 where
+  pub holds : Holds g no_hands t
+  pub view_is : (o : Object) (p : ℕ) → view g t o p ≡ (if is_ended ended o then UNDEFINED else view f s o p)
+  pub outlines_are : (o : Object) → outline_at g o ≡ (if is_ended ended o then None else outline_at f o)
+  pub still : (o : Object) → is_ended ended o ≡ false → IsQuiet f s o → IsQuiet g t o
+  pub group : g.group ≡ f.group
+
+-- Nothing is pending, no object has a store, the group holds nothing, and no batch to come uses what it gave.
+pub record HasClosed (f : Face) (s : Link) : Type 0 where
+  pub none_pending : (index : ℕ) → f.pending index ≡ []
+  pub none_stored : (o : Object) → f.objects o ≡ None
+  pub none_held : (id : ℕ) → s.held id ≡ false
+  pub given : (id index : ℕ) (uses : List QueueSerial) → s.given id ≡ Some uses → number_of uses index ≤ last_number (batches_of s.mine) index

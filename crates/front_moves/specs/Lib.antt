@@ -1,0 +1,4 @@
+pub mod Buffers
+pub mod Core
+pub mod Ending
+pub mod Recording

@@ -1,0 +1,216 @@
+// A share group's front without its history.
+ghost use Rattle.std.specs.Prelude.{◌≡◌, ℕ, ◌+◌, ◌*◌, ◌<◌, ◌≤◌, ◌==◌, ◌||◌, Bool, ◌++◌, [], length, OnOk, OnErr, IfOk, IfSome, is_some};
+ghost use Rattle.vk_device.specs.Faults.{HasCause};
+ghost use Rattle.resource_use.specs.Uses.{number_of};
+ghost use Rattle.vk_model.specs.Log.{commands};
+ghost use Rattle.back_core.specs.Own.{log_of};
+ghost use Rattle.back_core.specs.Link.{Link, IsNew};
+ghost use Rattle.back_core.specs.Needs.{IsOfGroup};
+ghost use Rattle.front_model.specs.Face.{Buffer, outline_at, view, nodes_touch};
+ghost use Rattle.front_model.specs.Stands.{Holds, Owns, Moved, IsQuiet, no_hands};
+ghost use Rattle.front_moves.specs.Core.{face, IsFlushed, OnlyFlushed, HasFlushedSome, IsApart, IsParted};
+
+use crate::buffers::Buffers;
+use crate::comes_to::{flush_comes_to, new_comes_to};
+use crate::pending::Pending;
+use back_core::BackLink;
+use queue_serials::Indexes;
+use std::alloc::Global;
+use std::marker::Model;
+use vk_types::{Batch, Nodes, QueueSerial, Reason, SerialIndex, SignalNumbers, Stop};
+
+/// How many nodes may be pending in a context before they are handed to the back.
+pub(crate) const MOST_PENDING: usize = 1024;
+
+/// The buffers of a share group and what its contexts recorded. Contracts see a record of lists; `face` of `specs/Core.antt` is the
+/// front that they make.
+pub struct Core {
+    pub(crate) alloc: Global,
+    pub(crate) group: u8,
+    pub(crate) indexes: Indexes,
+    pub(crate) pending: Pending,
+    pub(crate) buffers: Buffers,
+}
+
+impl Model for Core {
+    ghost use Rattle.std.specs.Prelude.{◌≡◌, ◌<◌};
+    ghost use Rattle.front_moves.specs.Core.{CoreParts};
+
+    ghost Value = { CoreParts };
+
+    ghost view = { λ c. record { indexes = c.indexes; pending = c.pending; buffers = c.buffers } };
+
+    ghost invariant = { λ c. (c.group ≡ c.indexes.group) × (c.group < 8) };
+}
+
+impl Core {
+    /// A front with nothing in it. This takes no memory.
+    pub fn new(alloc: Global, group: u8) -> Core
+        requires { group < 8 }
+        ensures { (s : Link) → IsNew s group → Holds (face result) no_hands s }
+    {
+        new_comes_to();
+        Core {
+            alloc,
+            group,
+            indexes: Indexes::new(group),
+            pending: Pending::new(alloc),
+            buffers: Buffers::new(alloc),
+        }
+    }
+
+    /// The number of the group.
+    pub fn group(&self) -> u8
+        ensures value { result ≡ (face self.now).group }
+        ensures bound { result < 8 }
+    {
+        self.group
+    }
+
+    /// The place of an index in the group.
+    pub(crate) fn place(&self, index: SerialIndex) -> usize
+        requires { IsOfGroup (face self.now).group index }
+        ensures place { result + 8 * (face self.now).group ≡ index }
+        ensures bound { result < 8 }
+    {
+        usize::from(index.get() - 8 * self.group)
+    }
+
+    /// The serial of the next batch of an index.
+    pub fn next_serial<L: BackLink>(&self, link: &L, index: SerialIndex) -> QueueSerial
+        requires holds { Holds (face self.now) no_hands (L.state link.now) }
+        requires group { IsOfGroup (face self.now).group index }
+        ensures index { result.index ≡ index }
+        ensures number { result.number ≡ (face self.now).last index + 1 }
+    {
+        flush_comes_to();
+        let _ = link;
+        QueueSerial {
+            index,
+            number: self.indexes.last(index) + 1,
+        }
+    }
+
+    /// Hands what is pending in a context to the back, if there is something.
+    pub fn flush<L: BackLink>(
+        &mut self,
+        link: &mut L,
+        index: SerialIndex,
+        reason: Reason,
+    ) -> Result<(), Stop>
+        requires holds { Holds (face self.old) no_hands (L.state link.old) }
+        requires group { IsOfGroup (face self.old).group index }
+        ensures moved { OnOk result (Moved (face self.new) (L.state link.new) (view (face self.old) (L.state link.old)) (outline_at (face self.old)) (IsQuiet (face self.old) (L.state link.old))) }
+        ensures flushed { OnOk result (IsFlushed (face self.old) (face self.new) index) }
+        ensures group { (face self.new).group ≡ (face self.old).group }
+        ensures log { OnOk result (log_of (L.state link.new).mine ≡ log_of (L.state link.old).mine ++ commands 0 ((face self.old).pending index)) }
+        ensures err { OnErr result (Owns (face self.new).objects (L.state link.new)) }
+        ensures cause { HasCause (L.faults link.old) (L.faults link.new) result }
+    {
+        flush_comes_to();
+        let place = self.place(index);
+        if self.pending.len(place) == 0 {
+            return Ok(());
+        }
+        let number = self.indexes.next(index);
+        let batch = Batch {
+            index,
+            number,
+            queue: 0,
+            waits: SignalNumbers::of(Vec::new(self.alloc)),
+            signals: SignalNumbers::of(Vec::new(self.alloc)),
+            nodes: Nodes::of(self.pending.take(self.alloc, place)),
+            reason,
+        };
+        match link.enqueue(batch) {
+            Ok(()) => Ok(()),
+            Err(_) => Err(Stop::Memory),
+        }
+    }
+
+    /// Whether the nodes that are pending in a context touch a buffer, by the buffer's last uses.
+    fn is_touched(&self, index: SerialIndex, buffer: u32) -> bool
+        requires group { IsOfGroup (face self.now).group index }
+        ensures { (s : Link) → Holds (face self.now) no_hands s → IfSome ((face self.now).objects (Buffer buffer)) (λ x. nodes_touch ((face self.now).pending index) x.handle ≡ result) }
+    {
+        flush_comes_to();
+        match self.buffers.get(buffer) {
+            Some(store) => store.last_use(index) > self.indexes.last(index),
+            None => false,
+        }
+    }
+
+    /// Flushes a context where something that is pending in it touches a buffer.
+    fn part<L: BackLink>(
+        &mut self,
+        link: &mut L,
+        index: SerialIndex,
+        buffer: u32,
+    ) -> Result<(), Stop>
+        requires holds { Holds (face self.old) no_hands (L.state link.old) }
+        requires group { IsOfGroup (face self.old).group index }
+        ensures some { OnOk result (HasFlushedSome (face self.old) (face self.new) (L.state link.old) (L.state link.new)) }
+        ensures apart { OnOk result (IsApart (face self.new) index buffer) }
+        ensures group { (face self.new).group ≡ (face self.old).group }
+        ensures err { OnErr result (Owns (face self.new).objects (L.state link.new)) }
+        ensures cause { HasCause (L.faults link.old) (L.faults link.new) result }
+    {
+        if self.is_touched(index, buffer) {
+            return self.flush(link, index, Reason::Cross);
+        }
+        Ok(())
+    }
+
+    /// Flushes each other context in which something that touches a buffer is pending.
+    fn part_others<L: BackLink>(
+        &mut self,
+        link: &mut L,
+        index: SerialIndex,
+        buffer: u32,
+    ) -> Result<(), Stop>
+        requires holds { Holds (face self.old) no_hands (L.state link.old) }
+        ensures some { OnOk result (HasFlushedSome (face self.old) (face self.new) (L.state link.old) (L.state link.new)) }
+        ensures parted { OnOk result (IsParted (face self.new) index buffer) }
+        ensures group { (face self.new).group ≡ (face self.old).group }
+        ensures err { OnErr result (Owns (face self.new).objects (L.state link.new)) }
+        ensures cause { HasCause (L.faults link.old) (L.faults link.new) result }
+    {
+        for place in 0..8u8 {
+            let other = SerialIndex::new(8 * self.group + place);
+            if other != index {
+                match self.part(link, other, buffer) {
+                    Ok(()) => {}
+                    Err(stop) => return Err(stop),
+                }
+            }
+        }
+        Ok(())
+    }
+
+    /// Flushes each other context in which something that touches a buffer is pending, and this one where it is full.
+    pub(crate) fn prepare<L: BackLink>(
+        &mut self,
+        link: &mut L,
+        index: SerialIndex,
+        buffer: u32,
+    ) -> Result<(), Stop>
+        requires holds { Holds (face self.old) no_hands (L.state link.old) }
+        requires group { IsOfGroup (face self.old).group index }
+        ensures moved { OnOk result (Moved (face self.new) (L.state link.new) (view (face self.old) (L.state link.old)) (outline_at (face self.old)) (IsQuiet (face self.old) (L.state link.old))) }
+        ensures flushed { OnOk result (OnlyFlushed (face self.old) (face self.new)) }
+        ensures parted { OnOk result (IsParted (face self.new) index buffer) }
+        ensures few { OnOk result (length ((face self.new).pending index) < 1024) }
+        ensures group { (face self.new).group ≡ (face self.old).group }
+        ensures err { OnErr result (Owns (face self.new).objects (L.state link.new)) }
+        ensures cause { HasCause (L.faults link.old) (L.faults link.new) result }
+    {
+        match self.part_others(link, index, buffer) {
+            Ok(()) => {}
+            Err(stop) => return Err(stop),
+        }
+        if self.pending.len(self.place(index)) >= MOST_PENDING {
+            return self.flush(link, index, Reason::Full);
+        }
+        Ok(())
+    }
+}

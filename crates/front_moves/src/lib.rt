@@ -1,0 +1,18 @@
+//! The moves of which the calls of a share group are made: each keeps the front standing, and changes what its objects hold as
+//! its contract says. So far an object is a buffer, and each node that is recorded has barriers on both sides.
+#![tactic(auto)]
+
+mod buffers;
+mod closing;
+mod comes_to;
+mod ending;
+mod group_core;
+mod moves;
+mod pending;
+mod reading_comes_to;
+mod recording;
+mod recording_comes_to;
+mod stores;
+mod stores_come_to;
+
+pub use group_core::Core;

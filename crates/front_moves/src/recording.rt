@@ -1,0 +1,241 @@
+// How nodes on buffers are recorded, each behind full barriers of all that it touches.
+ghost use Rattle.std.specs.Prelude.{◌≡◌, ℕ, ◌+◌, ◌<◌, ◌≤◌, ◌==◌, ◌⊎◌, if◌then◌else◌, ◌++◌, ◌≢◌, [], ◌∷◌, length, OnOk, OnErr, IfErr, Err, IfSome, IfNone, IsSome, slice_set, slice_index_or};
+ghost use Rattle.vk_device.specs.Faults.{HasCause};
+ghost use Rattle.vk_types.specs.declared.ops.Op.TheVariants as op;
+ghost use Rattle.vk_types.specs.Touches.{the_end};
+ghost use Rattle.vk_types.specs.declared.stops.Stop.TheVariants.{Memory};
+ghost use Rattle.resource_use.specs.Uses.{number_of};
+ghost use Rattle.back_core.specs.Needs.{IsOfGroup};
+ghost use Rattle.front_model.specs.Face.{Buffer, put_object, outline_at, view, recorded};
+ghost use Rattle.front_model.specs.Stands.{Holds, Owns, Moved, IsQuiet, no_hands};
+ghost use Rattle.front_model.specs.Steps.{full_barrier, fenced};
+ghost use Rattle.front_model.specs.Wanted.{with_copy};
+ghost use Rattle.front_moves.specs.Core.{face, in_hand, HasStore, IsParted, IsQuietBut, IsUntouched, IsRetired, EndsWithBarrier};
+
+use crate::group_core::Core;
+use crate::pending::Pending;
+use crate::reading_comes_to::waiting_comes_to;
+use crate::recording_comes_to::{
+    barrier_comes_to, copy_comes_to, stopped_recording_comes_to, upload_comes_to,
+};
+use back_core::BackLink;
+use garbage::Garbage;
+use vk_types::{Access, Barrier, HandleId, Node, Op, QueueSerial, SerialIndex, Stop};
+
+/// A barrier of an object that names all kinds of access on both sides.
+pub(crate) fn barrier(id: HandleId) -> Node
+    ensures { result ≡ full_barrier id }
+{
+    Node {
+        op: Op::Barrier(Barrier {
+            id,
+            first: Access::ALL,
+            second: Access::ALL,
+            layouts: None,
+        }),
+    }
+}
+
+/// Adds a copy behind barriers of its two buffers.
+pub(crate) fn push_copy(
+    pending: &mut Pending,
+    place: usize,
+    src: HandleId,
+    src_at: u64,
+    dst: HandleId,
+    dst_at: u64,
+    size: u64,
+) -> Result<(), Stop>
+    requires { place < 8 }
+    ensures ok { OnOk result (pending.new ≡ slice_set pending.old place (slice_index_or pending.old place [] ++ fenced (record { op = op.CopyBuffer src src_at dst dst_at size }))) }
+    ensures eight { length pending.old ≡ 8 }
+    ensures err { IfErr result (λ stop. stop ≡ Memory) }
+{
+    let copy = Node {
+        op: Op::CopyBuffer {
+            src,
+            src_at,
+            dst,
+            dst_at,
+            size,
+        },
+    };
+    if pending.push(place, barrier(src)).is_err()
+        || pending.push(place, barrier(dst)).is_err()
+        || pending.push(place, copy).is_err()
+    {
+        return Err(Stop::Memory);
+    }
+    Ok(())
+}
+
+impl Core {
+    /// Records the copy of a whole staging buffer to a place of a buffer, and gives the staging buffer away.
+    pub(crate) fn record_upload<L: BackLink>(
+        &mut self,
+        link: &mut L,
+        serial: QueueSerial,
+        staging: Garbage,
+        buffer: u32,
+        at: u64,
+        len: u64,
+    ) -> Result<(), Stop>
+        requires holds { Holds (face self.old) (in_hand staging.handle.0 len) (L.state link.old) }
+        requires group { IsOfGroup (face self.old).group serial.index }
+        requires next { serial.number ≡ (face self.old).last serial.index + 1 }
+        requires uses { (i : ℕ) → number_of staging.uses i ≡ (if i == serial.index then serial.number else 0) }
+        requires parted { IsParted (face self.old) serial.index buffer }
+        requires few { length ((face self.old).pending serial.index) < 1024 }
+        requires store { (size : ℕ) × HasStore (face self.old) buffer size × (at + len ≤ size) }
+        requires some { 0 < len }
+        ensures moved { OnOk result (Moved (face self.new) (L.state link.new)
+            (put_object (view (face self.old) (L.state link.old)) (Buffer buffer)
+            (with_copy (view (face self.old) (L.state link.old) (Buffer buffer)) at len (recorded (face self.old) (L.state link.old) staging.handle.0) 0))
+            (outline_at (face self.old)) (IsQuietBut (face self.old) (L.state link.old) buffer)) }
+        ensures group { (face self.new).group ≡ (face self.old).group }
+        ensures err { OnErr result (Owns (face self.new).objects (L.state link.new)) }
+        ensures cause { HasCause (L.faults link.old) (L.faults link.new) result }
+    {
+        upload_comes_to();
+        stopped_recording_comes_to();
+        let place = self.place(serial.index);
+        let src = staging.handle.id();
+        let dst = self.id_of(buffer);
+        if push_copy(&mut self.pending, place, src, 0, dst, at, len).is_ok()
+            && self.buffers.note(buffer, serial).is_ok()
+        {
+            link.give(staging);
+            return Ok(());
+        }
+        let Garbage { handle, uses: _ } = staging;
+        link.abandon(handle);
+        Err(Stop::Memory)
+    }
+
+    /// Records a copy from a buffer to a buffer.
+    pub(crate) fn record_copy<L: BackLink>(
+        &mut self,
+        link: &L,
+        serial: QueueSerial,
+        src: u32,
+        src_at: u64,
+        dst: u32,
+        dst_at: u64,
+        size: u64,
+    ) -> Result<(), Stop>
+        requires holds { Holds (face self.old) no_hands (L.state link.now) }
+        requires group { IsOfGroup (face self.old).group serial.index }
+        requires next { serial.number ≡ (face self.old).last serial.index + 1 }
+        requires source_parted { IsParted (face self.old) serial.index src }
+        requires parted { IsParted (face self.old) serial.index dst }
+        requires few { length ((face self.old).pending serial.index) < 1024 }
+        requires source { (len : ℕ) × HasStore (face self.old) src len × (src_at + size ≤ len) }
+        requires target { (len : ℕ) × HasStore (face self.old) dst len × (dst_at + size ≤ len) }
+        requires some { 0 < size }
+        requires apart { src ≡ dst → (src_at + size ≤ dst_at) ⊎ (dst_at + size ≤ src_at) }
+        ensures moved { OnOk result (Moved (face self.new) (L.state link.now)
+            (put_object (view (face self.old) (L.state link.now)) (Buffer dst)
+            (with_copy (view (face self.old) (L.state link.now) (Buffer dst)) dst_at size (view (face self.old) (L.state link.now) (Buffer src)) src_at))
+            (outline_at (face self.old)) (λ o. IsQuietBut (face self.old) (L.state link.now) dst o × (o ≢ Buffer src))) }
+        ensures group { (face self.new).group ≡ (face self.old).group }
+        ensures err { OnErr result (Owns (face self.new).objects (L.state link.now)) }
+        ensures memory { IfErr result (λ stop. stop ≡ Memory) }
+    {
+        copy_comes_to();
+        stopped_recording_comes_to();
+        let _ = link;
+        let place = self.place(serial.index);
+        let from = self.id_of(src);
+        let to = self.id_of(dst);
+        if push_copy(&mut self.pending, place, from, src_at, to, dst_at, size).is_ok()
+            && self.buffers.note_both(src, dst, serial).is_ok()
+        {
+            return Ok(());
+        }
+        Err(Stop::Memory)
+    }
+
+    /// Records a barrier of a buffer, behind all that was recorded.
+    pub(crate) fn record_barrier<L: BackLink>(
+        &mut self,
+        link: &L,
+        serial: QueueSerial,
+        buffer: u32,
+    ) -> Result<(), Stop>
+        requires holds { Holds (face self.old) no_hands (L.state link.now) }
+        requires group { IsOfGroup (face self.old).group serial.index }
+        requires next { serial.number ≡ (face self.old).last serial.index + 1 }
+        requires parted { IsParted (face self.old) serial.index buffer }
+        requires few { length ((face self.old).pending serial.index) < 1024 }
+        requires store { (size : ℕ) × HasStore (face self.old) buffer size }
+        ensures moved { OnOk result (Moved (face self.new) (L.state link.now) (view (face self.old) (L.state link.now)) (outline_at (face self.old)) (IsQuietBut (face self.old) (L.state link.now) buffer)) }
+        ensures parted { OnOk result (IsParted (face self.new) serial.index buffer) }
+        ensures behind { OnOk result (EndsWithBarrier (face self.new) serial.index buffer) }
+        ensures group { (face self.new).group ≡ (face self.old).group }
+        ensures err { OnErr result (Owns (face self.new).objects (L.state link.now)) }
+        ensures memory { IfErr result (λ stop. stop ≡ Memory) }
+    {
+        barrier_comes_to();
+        stopped_recording_comes_to();
+        let _ = link;
+        let place = self.place(serial.index);
+        let id = self.id_of(buffer);
+        if self.pending.push(place, barrier(id)).is_ok()
+            && self.buffers.note(buffer, serial).is_ok()
+        {
+            return Ok(());
+        }
+        Err(Stop::Memory)
+    }
+
+    /// The object of a buffer's store.
+    fn id_of(&self, buffer: u32) -> HandleId
+        requires { IsSome ((face self.now).objects (Buffer buffer)) }
+        ensures handle { IfSome ((face self.now).objects (Buffer buffer)) (λ x. x.handle ≡ result.0) }
+        ensures size { (size : ℕ) → HasStore (face self.now) buffer size → size ≤ the_end }
+    {
+        match self.buffers.get(buffer) {
+            Some(store) => {
+                // so that the size is known to fit
+                let _ = store.size();
+                store.id()
+            }
+            None => unreachable!(),
+        }
+    }
+
+    /// Waits until each batch that touches a buffer is retired.
+    pub(crate) fn wait_for_uses<L: BackLink>(&self, link: &mut L, buffer: u32) -> Result<(), Stop>
+        requires holds { Holds (face self.now) no_hands (L.state link.old) }
+        requires untouched { IsUntouched (face self.now) buffer }
+        ensures moved { OnOk result (Moved (face self.now) (L.state link.new) (view (face self.now) (L.state link.old)) (outline_at (face self.now)) (IsQuiet (face self.now) (L.state link.old))) }
+        ensures retired { OnOk result (IsRetired (face self.now) (L.state link.new) buffer) }
+        ensures same { OnOk result ((L.state link.new).mine ≡ (L.state link.old).mine) }
+        ensures err { OnErr result (Owns (face self.now).objects (L.state link.new)) }
+        ensures cause { HasCause (L.faults link.old) (L.faults link.new) result }
+    {
+        waiting_comes_to();
+        for place in 0..8u8 {
+            let index = SerialIndex::new(8 * self.group + place);
+            let number = self.last_use(index, buffer);
+            if number > 0 {
+                match link.wait_for(QueueSerial { index, number }) {
+                    Ok(()) => {}
+                    Err(stop) => return Err(stop),
+                }
+            }
+        }
+        Ok(())
+    }
+
+    /// The number of the last batch of an index that uses a buffer's store, or 0.
+    fn last_use(&self, index: SerialIndex, buffer: u32) -> u64
+        ensures used { IfSome ((face self.now).objects (Buffer buffer)) (λ x. result ≡ x.slot.used index) }
+        ensures none { IfNone ((face self.now).objects (Buffer buffer)) (result ≡ 0) }
+    {
+        match self.buffers.get(buffer) {
+            Some(store) => store.last_use(index),
+            None => 0,
+        }
+    }
+}
