@@ -37,3 +37,4 @@ mod Given
 mod Lives
 mod Fits
 mod Meets
+pub mod Outside

@@ -1,6 +1,6 @@
 -- What a share group sees, as a function of what happened to the back.
-use Rattle.std.specs.Prelude.{◌≢◌, ℕ, ◌/◌, ◌==◌, false, List, [], ◌∷◌, fold, Some, None, if◌then◌else◌}
-use Rattle.std.specs.List.{flat_map}
+use Rattle.std.specs.Prelude.{◌≢◌, ℕ, ◌/◌, ◌==◌, not, Bool, true, false, List, [], ◌∷◌, fold, Some, None, if◌then◌else◌}
+use Rattle.std.specs.List.{flat_map, filter}
 use Rattle.submit_queue.specs.Histories as queue
 use Rattle.back_core.specs.declared.back_event.BackEvent.{BackEvent}
 use Rattle.back_core.specs.declared.back_event.BackEvent.TheVariants.{Created, Wrote, Enqueued, Submitted, Ran, Retired, Fetched, Gave, Abandoned, Cleaned, Closing, Stopped}
@@ -82,3 +82,22 @@ IsOfOthers (Abandoned group id) g = group ≢ g
 IsOfOthers (Cleaned read destroyed) g = Unit {0}
 IsOfOthers Closing g = Unit {0}
 IsOfOthers (Stopped stop) g = Unit {0}
+
+-- an event that the calls of a group's link have no part in: one of another group, a cleanup, or the change to closing
+abbrev pub is_outside : ℕ → BackEvent → Bool
+is_outside g (Created group id kind) = not (group == g)
+is_outside g (Wrote group id at bytes) = not (group == g)
+is_outside g (Enqueued batch) = not ((batch.index / 8) == g)
+is_outside g Submitted = false
+is_outside g (Ran batch node) = false
+is_outside g (Retired serial) = false
+is_outside g (Fetched group id at bytes) = not (group == g)
+is_outside g (Gave group id uses) = not (group == g)
+is_outside g (Abandoned group id) = not (group == g)
+is_outside g (Cleaned read destroyed) = true
+is_outside g Closing = true
+is_outside g (Stopped stop) = false
+
+-- what happened that the calls of a group's link have no part in
+unfoldable pub outside_of : List BackEvent → ℕ → List BackEvent
+outside_of history g = filter (is_outside g) history

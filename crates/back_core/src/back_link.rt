@@ -3,6 +3,7 @@ ghost use Rattle.std.specs.Prelude.{◌≡◌, ℕ, ◌+◌, ◌<◌, ◌≤◌,
 ghost use Rattle.cells.specs.Contents.{cells, Agrees};
 ghost use Rattle.vk_model.specs.Fitting.{IsKind};
 ghost use Rattle.vk_device.specs.Faults.{HasCause};
+ghost use Rattle.back_core.specs.declared.back_event.BackEvent.{BackEvent};
 ghost use Rattle.back_core.specs.Own.{log_of, IsReadable};
 ghost use Rattle.back_core.specs.Link.{Link, contents_of, created, wrote, enqueued, fetched, gave, abandoned};
 ghost use Rattle.back_core.specs.Needs.{IsFresh, HostMay, MayEnqueue, MayGive, HasBatch};
@@ -20,20 +21,25 @@ pub trait BackLink {
     /// How many faults there were.
     ghost faults: { Self → ℕ };
 
+    /// What happened at the back that the calls of this link have no part in, where that is told. No call changes it.
+    ghost outside: { Self → List BackEvent };
+
     /// Makes an object, which the group then holds. It takes the room that `give` needs.
     fn create(&mut self, kind: Kind) -> Result<Handle, Stop>
         requires { IsKind kind }
         ensures fresh { IfOk result (λ id. IsFresh (state self.old) id.0) }
         ensures ok { IfOk result (λ id. state self.new ≡ created (state self.old) id.0 kind) }
         ensures err { OnErr result (state self.new ≡ state self.old) }
-        ensures cause { HasCause (faults self.old) (faults self.new) result };
+        ensures cause { HasCause (faults self.old) (faults self.new) result }
+        ensures outside { outside self.new ≡ outside self.old };
 
     /// Writes bytes into a buffer, from the place `at` on.
     fn write_host(&mut self, id: HandleId, at: u64, bytes: &[u8]) -> Result<(), Stop>
         requires { HostMay (state self.old) id.0 at (length bytes.now) }
         ensures ok { OnOk result (state self.new ≡ wrote (state self.old) id.0 at bytes.now) }
         ensures err { OnErr result (state self.new ≡ state self.old) }
-        ensures cause { HasCause (faults self.old) (faults self.new) result };
+        ensures cause { HasCause (faults self.old) (faults self.new) result }
+        ensures outside { outside self.new ≡ outside self.old };
 
     /// Hands a batch to the back, or has it handed back for want of memory. Since the back keeps its history, the numbers
     /// of batches do not come to an end.
@@ -43,19 +49,22 @@ pub trait BackLink {
         ensures room { OnOk result (batch.number < 18446744073709551615) }
         ensures err { OnErr result (state self.new ≡ state self.old) }
         ensures handed_back { IfErr result (λ back. back ≡ batch) }
-        ensures faults { faults self.old ≤ faults self.new };
+        ensures faults { faults self.old ≤ faults self.new }
+        ensures outside { outside self.new ≡ outside self.old };
 
     /// A number up to which the batches of an index are retired.
     fn completed(&mut self, index: SerialIndex) -> u64
         ensures answer { Completes (state self.old) (state self.new) index result }
-        ensures faults { faults self.old ≤ faults self.new };
+        ensures faults { faults self.old ≤ faults self.new }
+        ensures outside { outside self.new ≡ outside self.old };
 
     /// Waits until a batch of the group is retired. What was learned by then is known also after `Lost` or `Memory`.
     fn wait_for(&mut self, serial: QueueSerial) -> Result<(), Stop>
         requires { HasBatch (state self.old) serial.index serial.number }
         ensures ok { OnOk result (Waits (state self.old) (state self.new) serial.index serial.number) }
         ensures err { OnErr result (Learns (state self.old) (state self.new)) }
-        ensures cause { HasCause (faults self.old) (faults self.new) result };
+        ensures cause { HasCause (faults self.old) (faults self.new) result }
+        ensures outside { outside self.new ≡ outside self.old };
 
     /// Reads bytes of a buffer, from the place `at` on.
     fn read_host(&mut self, id: HandleId, at: u64, out: &mut [u8]) -> Result<(), Stop>
@@ -64,17 +73,20 @@ pub trait BackLink {
         ensures ok { OnOk result (state self.new ≡ fetched (state self.old) id.0 at out.new) }
         ensures bytes { OnOk result (Agrees out.new (cells (length out.old) (λ i. contents_of (state self.old) id.0 (at + i)))) }
         ensures err { OnErr result (state self.new ≡ state self.old) }
-        ensures cause { HasCause (faults self.old) (faults self.new) result };
+        ensures cause { HasCause (faults self.old) (faults self.new) result }
+        ensures outside { outside self.new ≡ outside self.old };
 
     /// Gives an object away, to be destroyed once its uses are covered. This takes no memory.
     fn give(&mut self, item: Garbage)
         requires { MayGive (state self.old) item.handle.0 item.uses }
         ensures state { state self.new ≡ gave (state self.old) item.handle.0 item.uses }
-        ensures faults { faults self.old ≤ faults self.new };
+        ensures faults { faults self.old ≤ faults self.new }
+        ensures outside { outside self.new ≡ outside self.old };
 
     /// Lets an object go in a run that ended by `Lost` or `Memory`. This takes no memory.
     fn abandon(&mut self, handle: Handle)
         requires { (state self.old).held handle.0 ≡ true }
         ensures state { state self.new ≡ abandoned (state self.old) handle.0 }
-        ensures faults { faults self.old ≤ faults self.new };
+        ensures faults { faults self.old ≤ faults self.new }
+        ensures outside { outside self.new ≡ outside self.old };
 }

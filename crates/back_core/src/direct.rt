@@ -3,51 +3,61 @@ ghost use Rattle.std.specs.Prelude.{◌≡◌, ◌<◌, IfErr, OnOk, OnErr};
 ghost use Rattle.vk_device.specs.Faults.{HasCause};
 ghost use Rattle.back_core.specs.Needs.{HasBatch};
 ghost use Rattle.back_core.specs.Answers.{Learns, Waits};
-ghost use Rattle.back_core.specs.History.{link_of};
+ghost use Rattle.back_core.specs.History.{link_of, outside_of};
 ghost use Rattle.back_core.specs.Steps.{HasGoneOn, HasStopped};
 
-use crate::{Back, BackLink, what_a_group_sees};
+use crate::{Back, BackLink, calls_stay_inside, what_a_group_sees};
 use garbage::Garbage;
 use vk_device::Device;
 use vk_types::{Batch, Handle, HandleId, Kind, QueueSerial, SerialIndex, Stop};
 
-/// The link of a group to a back that it reaches directly. The group knows the completed numbers.
+/// The link of a group to a back that it reaches directly, and which it has meanwhile. The group knows the completed numbers.
 #[derive(Drop)]
-pub struct Direct<'a, D: Device> {
-    back: &'a mut Back<D>,
+pub struct Direct<D: Device> {
+    back: Back<D>,
     group: u8,
 }
 
-impl<'a, D: Device> Direct<'a, D> {
+impl<D: Device> Direct<D> {
     /// The link of a group, which is numbered from 0 to 7.
-    pub fn new(back: &'a mut Back<D>, group: u8) -> Direct<'a, D>
+    pub fn new(back: Back<D>, group: u8) -> Direct<D>
         requires { group < 8 }
-        ensures state { link_of result.back.now.history result.group ≡ link_of back.old.history group }
-        ensures device { result.back.now.device ≡ back.old.device }
+        ensures back { result.back ≡ back }
         ensures group { result.group ≡ group }
-        ensures same_reference { result.back.ghost_name ≡ back.entry.ghost_name }
     {
         Direct { back, group }
     }
+
+    /// The back again.
+    pub fn into_back(self) -> Back<D>
+        ensures { result ≡ self.back }
+    {
+        self.back
+    }
 }
 
-impl<'a, D: Device> BackLink for Direct<'a, D> {
-    ghost state = { λ d. link_of d.back.now.history d.group };
+impl<D: Device> BackLink for Direct<D> {
+    ghost state = { λ d. link_of d.back.history d.group };
 
-    ghost faults = { λ d. D.faults d.back.now.device };
+    ghost faults = { λ d. D.faults d.back.device };
+
+    ghost outside = { λ d. outside_of d.back.history d.group };
 
     fn create(&mut self, kind: Kind) -> Result<Handle, Stop> {
         what_a_group_sees();
+        calls_stay_inside();
         self.back.create(self.group, kind)
     }
 
     fn write_host(&mut self, id: HandleId, at: u64, bytes: &[u8]) -> Result<(), Stop> {
         what_a_group_sees();
+        calls_stay_inside();
         self.back.write_host(self.group, id, at, bytes)
     }
 
     fn enqueue(&mut self, batch: Batch) -> Result<(), Batch> {
         what_a_group_sees();
+        calls_stay_inside();
         self.back.enqueue(batch)
     }
 
@@ -58,28 +68,33 @@ impl<'a, D: Device> BackLink for Direct<'a, D> {
 
     /// Waits until a batch of the group is retired. The batches of the back go on meanwhile, and nothing else happens to it.
     fn wait_for(&mut self, serial: QueueSerial) -> Result<(), Stop>
-        requires { HasBatch (link_of self.old.back.now.history self.old.group) serial.index serial.number }
-        ensures gone_on { OnOk result (HasGoneOn self.old.back.now.history self.new.back.now.history) }
-        ensures stopped { IfErr result (λ stop. HasStopped self.old.back.now.history self.new.back.now.history stop) }
-        ensures ok { OnOk result (Waits (link_of self.old.back.now.history self.old.group) (link_of self.new.back.now.history self.new.group) serial.index serial.number) }
-        ensures err { OnErr result (Learns (link_of self.old.back.now.history self.old.group) (link_of self.new.back.now.history self.new.group)) }
-        ensures cause { HasCause (D.faults self.old.back.now.device) (D.faults self.new.back.now.device) result }
+        requires { HasBatch (link_of self.old.back.history self.old.group) serial.index serial.number }
+        ensures gone_on { OnOk result (HasGoneOn self.old.back.history self.new.back.history) }
+        ensures stopped { IfErr result (λ stop. HasStopped self.old.back.history self.new.back.history stop) }
+        ensures ok { OnOk result (Waits (link_of self.old.back.history self.old.group) (link_of self.new.back.history self.new.group) serial.index serial.number) }
+        ensures err { OnErr result (Learns (link_of self.old.back.history self.old.group) (link_of self.new.back.history self.new.group)) }
+        ensures cause { HasCause (D.faults self.old.back.device) (D.faults self.new.back.device) result }
+        ensures outside { outside_of self.new.back.history self.new.group ≡ outside_of self.old.back.history self.old.group }
     {
+        calls_stay_inside();
         self.back.wait_for(self.group, serial)
     }
 
     fn read_host(&mut self, id: HandleId, at: u64, out: &mut [u8]) -> Result<(), Stop> {
         what_a_group_sees();
+        calls_stay_inside();
         self.back.read_host(self.group, id, at, out)
     }
 
     fn give(&mut self, item: Garbage) {
         what_a_group_sees();
+        calls_stay_inside();
         self.back.give(self.group, item);
     }
 
     fn abandon(&mut self, handle: Handle) {
         what_a_group_sees();
+        calls_stay_inside();
         self.back.abandon(self.group, handle);
     }
 }

@@ -1,5 +1,6 @@
 // What is known of a link from what happened to the back.
-ghost use Rattle.std.specs.Prelude.{◌≡◌, ◌≢◌, ◌/◌, ◌≤◌, ℕ, List, [], ◌∷◌, ◌++◌};
+ghost use Rattle.std.specs.Prelude.{◌≡◌, ◌≢◌, ◌/◌, ◌≤◌, ℕ, false, List, [], ◌∷◌, ◌++◌};
+ghost use Rattle.vk_types.specs.declared.stops.Stop.{Stop};
 ghost use Rattle.vk_types.specs.declared.handles.HandleId.{HandleId};
 ghost use Rattle.vk_types.specs.declared.handles.Kind.{Kind};
 ghost use Rattle.vk_types.specs.declared.batches.Batch.{Batch};
@@ -10,7 +11,9 @@ ghost use Rattle.back_core.specs.declared.back_event.BackEvent.TheVariants.{Crea
 ghost use Rattle.back_core.specs.Own as own;
 ghost use Rattle.back_core.specs.Link.{IsNew, created, wrote, enqueued, fetched, gave, abandoned};
 ghost use Rattle.back_core.specs.Answers.{Learns, Completes};
-ghost use Rattle.back_core.specs.History.{link_of, completed, IsOfOthers};
+ghost use Rattle.back_core.specs.History.{link_of, completed, IsOfOthers, is_outside, outside_of};
+ghost use Rattle.back_core.specs.Steps.{HasGoneOn};
+ghost use Rattle.back_core.specs.Back.{stopped_by};
 
 use submit_queue::completed_numbers;
 
@@ -26,10 +29,19 @@ pub fn what_a_group_sees()
     ensures abandon { (h : List BackEvent) (g : ℕ) (id : HandleId) → link_of (h ++ Abandoned g id ∷ []) g ≡ abandoned (link_of h g) id.0 }
     ensures retire { (h : List BackEvent) (g : ℕ) (serial : QueueSerial) → Learns (link_of h g) (link_of (h ++ Retired serial ∷ []) g) }
     ensures others { (h : List BackEvent) (g : ℕ) (e : BackEvent) → IsOfOthers e g → link_of (h ++ e ∷ []) g ≡ link_of h g }
+    ensures group { (h : List BackEvent) (g : ℕ) → (link_of h g).group ≡ g }
     ensures asked { (h : List BackEvent) (g index : ℕ) → Completes (link_of h g) (link_of h g) index (completed h index) }
 {
     completed_numbers();
 }
+
+/// What happened outside a group's calls stays as it is in each of them, in a stop, and as the batches go on.
+pub fn calls_stay_inside()
+    ensures none { (g : ℕ) → outside_of [] g ≡ [] }
+    ensures own { (h : List BackEvent) (g : ℕ) (e : BackEvent) → is_outside g e ≡ false → outside_of (h ++ e ∷ []) g ≡ outside_of h g }
+    ensures goes_on { (h i : List BackEvent) (g : ℕ) → HasGoneOn h i → outside_of i g ≡ outside_of h g }
+    ensures stopped { (h : List BackEvent) (g : ℕ) (stop : Stop) → outside_of (stopped_by h stop) g ≡ outside_of h g }
+{}
 
 /// No last use is above the last number of its index, while the numbers of an index rise.
 pub fn uses_are_low()

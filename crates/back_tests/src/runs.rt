@@ -17,12 +17,13 @@ pub(crate) fn copy<D: Device>(
     requires new { D.journal device ≡ [] }
     requires size { length out.old ≡ 4 }
 {
-    let mut back = match Back::new(alloc, device) {
+    let back = match Back::new(alloc, device) {
         Ok(back) => back,
         Err(device) => return Err(device),
     };
-    let mut link = Direct::new(&mut back, 0);
+    let mut link = Direct::new(back, 0);
     let answer = copy_between(alloc, &mut link, out);
+    let back = link.into_back();
     let ending = back.ending();
     Ok((answer, ending, back.finish()))
 }
@@ -44,12 +45,13 @@ pub(crate) struct Answers<D> {
 pub(crate) fn queue<D: Device>(alloc: Global, device: D) -> Result<Answers<D>, D>
     requires { D.journal device ≡ [] }
 {
-    let mut back = match Back::new(alloc, device) {
+    let back = match Back::new(alloc, device) {
         Ok(back) => back,
         Err(device) => return Err(device),
     };
-    let mut link = Direct::new(&mut back, 0);
+    let mut link = Direct::new(back, 0);
     let enqueued = enqueue_three(alloc, &mut link);
+    let mut back = link.into_back();
     let left = back.left();
     let steps = [
         back.submit_one(),
@@ -99,12 +101,13 @@ fn nothing_read() -> [u64; 64]
 pub(crate) fn clean<D: Device>(alloc: Global, device: D) -> Result<Cleaned<D>, D>
     requires { D.journal device ≡ [] }
 {
-    let mut back = match Back::new(alloc, device) {
+    let back = match Back::new(alloc, device) {
         Ok(back) => back,
         Err(device) => return Err(device),
     };
-    let mut link = Direct::new(&mut back, 0);
+    let mut link = Direct::new(back, 0);
     let gave = give_three(alloc, &mut link);
+    let mut back = link.into_back();
     let read = nothing_read();
     let counts = [back.cleanup(&read), back.cleanup(&read)];
     let left = back.left();

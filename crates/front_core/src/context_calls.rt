@@ -68,6 +68,7 @@ impl Share {
         ensures group { (face self.new.core).group ≡ (face self.old.core).group }
         ensures err { OnErr result (Owns (face self.new.core).objects (L.state link.new)) }
         ensures cause { HasCause (L.faults link.old) (L.faults link.new) result }
+        ensures outside { L.outside link.new ≡ L.outside link.old }
     {
         match self.given_up(thread, number) {
             Some(index) => self.core.flush(link, index, Reason::Switch),
@@ -89,6 +90,7 @@ impl Share {
         ensures group { (face self.new.core).group ≡ (face self.old.core).group }
         ensures err { OnErr result (Owns (face self.new.core).objects (L.state link.new)) }
         ensures cause { HasCause (L.faults link.old) (L.faults link.new) result }
+        ensures outside { L.outside link.new ≡ L.outside link.old }
     {
         state_calls_come_to();
         let Some(index) = free_index(&self.serials, self.core.group()) else {
@@ -117,6 +119,7 @@ impl Share {
         ensures group { (face self.new.core).group ≡ (face self.old.core).group }
         ensures err { OnErr result (Owns (face self.new.core).objects (L.state link.new)) }
         ensures cause { HasCause (L.faults link.old) (L.faults link.new) result }
+        ensures outside { L.outside link.new ≡ L.outside link.old }
     {
         match self.state_call(link, thread, &Call::DestroyContext { number }) {
             Ok(reply) => {
@@ -142,6 +145,7 @@ impl Share {
         ensures group { (face self.new.core).group ≡ (face self.old.core).group }
         ensures err { OnErr result (Owns (face self.new.core).objects (L.state link.new)) }
         ensures cause { HasCause (L.faults link.old) (L.faults link.new) result }
+        ensures outside { L.outside link.new ≡ L.outside link.old }
     {
         match self.switch(link, thread, u32::from(number)) {
             Ok(()) => match self.state_call(link, thread, &Call::MakeCurrent { number }) {

@@ -60,6 +60,7 @@ impl Front {
         ensures origin { IfOk result (λ reply. is_map_read call.now ≡ true → refusal self.old.state thread call.now ≡ None → HasOrigin (L.state link.old) (L.state link.new) reply) }
         ensures err { OnErr result (HasStopped self.old self.new (L.state link.new)) }
         ensures cause { HasCause (L.faults link.old) (L.faults link.new) result }
+        ensures outside { L.outside link.new ≡ L.outside link.old }
     {
         unreachable!()
     }
@@ -85,6 +86,7 @@ impl Front {
         ensures ok { OnOk result (IsClosed self.old self.new (L.state link.new)) }
         ensures err { OnErr result (HasStopped self.old self.new (L.state link.new)) }
         ensures cause { HasCause (L.faults link.old) (L.faults link.new) result }
+        ensures outside { L.outside link.new ≡ L.outside link.old }
     {
         unreachable!()
     }
@@ -96,6 +98,7 @@ impl Front {
         ensures history { result.items ≡ self.history }
         ensures rest { L.state link.new ≡ record (L.state link.old) { held = (L.state link.new).held } }
         ensures faults { L.faults link.old ≤ L.faults link.new }
+        ensures outside { L.outside link.new ≡ L.outside link.old }
     {
         unreachable!()
     }

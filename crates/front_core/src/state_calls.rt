@@ -27,6 +27,7 @@ impl Share {
         ensures group { (face self.new.core).group ≡ (face self.old.core).group }
         ensures err { OnErr result (Owns (face self.new.core).objects (L.state link.new)) }
         ensures cause { HasCause (L.faults link.old) (L.faults link.new) result }
+        ensures outside { L.outside link.new ≡ L.outside link.old }
     {
         state_calls_come_to();
         match apply(self.alloc, &mut self.state, thread, call) {

@@ -58,6 +58,7 @@ host_holds f hands s x none sound barriers h =
       objects = λ o b at. stored_kept f f s t h.owner h.owner (λ id kind at. at) o b (λ id has. same id) (λ id has. refl) (h.objects o b at);
       hands_stand = λ id slot at. hand_kept f f s t h.owner h.owner (λ id kind at. at) id slot (same id) refl (h.hands_stand id slot at);
       no_others = h.no_others;
+      none_lost = h.none_lost;
       touched = h.touched;
       given = λ id index uses at. let e = number_stays s.mine x none index in rw e (h.given id index uses at);
       group = h.group;
@@ -108,6 +109,7 @@ knowing_holds f hands s d n a h =
       objects = λ o b at. stored_kept f f s t h.owner h.owner (λ id kind at. at) o b (λ id has. same id) (λ id has. refl) (h.objects o b at);
       hands_stand = λ id slot at. hand_kept f f s t h.owner h.owner (λ id kind at. at) id slot (same id) refl (h.hands_stand id slot at);
       no_others = h.no_others;
+      none_lost = h.none_lost;
       touched = h.touched;
       given = h.given;
       group = h.group;
@@ -139,6 +141,7 @@ new_holds s group few new =
       objects = λ o b at. absurd (none-some b at);
       hands_stand = λ id slot at. absurd (none-some slot at);
       no_others = λ id held. absurd (both_ways (s.held id) (ap (λ k. k id) new.none_held) held);
+      none_lost = λ id made. let no : false ≡ true = subst IsSome (ap (λ k. k id) new.none_made) made in cc;
       touched = λ index id t. let no : false ≡ true = t in cc;
       given = λ id index uses at. absurd (none-some uses (sym (ap (λ k. k id) new.none_given) ∙ at));
       group = new.of_group;
@@ -208,6 +211,13 @@ created_holds f hands s id kind h fresh =
           | inr has ↦ inr has
         ]
       ];
+      none_lost = λ j made. elim (cases_eq j id) [
+        | inl e ↦ inl (put_at s.held id true j e)
+        | inr ne ↦ elim (h.none_lost j (subst IsSome (put-other s.kinds id (Some kind) j ne) made)) [
+          | inl held ↦ inl (put-true s.held id j held)
+          | inr given ↦ inr given
+        ]
+      ];
       touched = λ index j touch. elim (h.touched index j touch) [
         | inl held ↦ inl (put-true s.held id j held)
         | inr given ↦ inr given
@@ -264,6 +274,13 @@ gave_holds f hands s id slot uses h at are =
         | inr e ↦ elim (h.no_others j e.1) [
           | inl hand ↦ inl (subst IsSome (sym (put-other hands id None j e.0)) hand)
           | inr has ↦ inr has
+        ]
+      ];
+      none_lost = λ j made. elim (cases_eq j id) [
+        | inl e ↦ inr (is_some_of (put s.given id (Some uses) j) uses (put_at s.given id (Some uses) j e))
+        | inr ne ↦ elim (h.none_lost j made) [
+          | inl held ↦ inl (put-other s.held id false j ne ∙ held)
+          | inr given ↦ inr (put-some s.given id uses j given)
         ]
       ];
       touched = λ index j touch. elim (cases_eq j id) [

@@ -58,6 +58,7 @@ exchanged f hands after s o c also stands hands_stand known h others =
           | inr there ↦ inr (has.0, has.1, put_object-other f.objects o c has.0 there ∙ has.2, has.3)
         ]
       ];
+      none_lost = h.none_lost;
       touched = h.touched;
       given = h.given;
       group = h.group;

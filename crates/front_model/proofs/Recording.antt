@@ -108,6 +108,7 @@ module _ (f : Face) (hands : Hands) (s : Link) (index : ℕ) (batch : Batch) (h 
         objects = λ o b at. stored_kept f g s t h.owner h.owner (λ id kind at. at) o b (λ id has. same id) (λ id has. refl) (h.objects o b at);
         hands_stand = λ id slot at. hand_kept f g s t h.owner h.owner (λ id kind at. at) id slot (same id) refl (h.hands_stand id slot at);
         no_others = h.no_others;
+        none_lost = h.none_lost;
         touched = λ i id touch. touched i id touch (cases_eq i index);
         given = λ id i uses at. past_now id i (number_of uses i) (h.given id i uses at);
         group = h.group;
@@ -240,6 +241,7 @@ module _ (f : Face) (hands : Hands) (s : Link) (index : ℕ) (nodes : List Node)
           | inl hand ↦ inl (map_some (noted index (f.last index + 1) nodes id) (hands id) hand)
           | inr has ↦ inr (has.0, noted_store index (f.last index + 1) nodes has.1, ap (option_map (noted_store index (f.last index + 1) nodes)) has.2, has.3)
         ];
+        none_lost = h.none_lost;
         touched = λ i id touch. touched_now i id touch (cases_eq i index);
         given = λ id i uses at. elim (h.given id i uses at) [ inl low ↦ inl low | inr new ↦ inr (new.0, new.1, touch_more i id new.2 (cases_eq i index)) ];
         group = h.group;

@@ -92,6 +92,7 @@ pub record Holds (f : Face) (hands : Hands) (s : Link) : Type 0 where
   pub objects : (o : Object) (b : Stored) → f.objects o ≡ Some b → StoredStands f s owner o b
   pub hands_stand : (id : ℕ) (slot : Slot) → hands id ≡ Some slot → HandStands f s owner id slot
   pub no_others : (id : ℕ) → s.held id ≡ true → IsKnown f hands id
+  pub none_lost : (id : ℕ) → IsSome (s.kinds id) → (s.held id ≡ true) ⊎ IsSome (s.given id)
   pub touched : (index id : ℕ) → nodes_touch (f.pending index) id ≡ true → MayTouch s index (f.last index + 1) id
   pub given : (id index : ℕ) (uses : List QueueSerial) → s.given id ≡ Some uses → IsPastUse f s id index (number_of uses index)
   -- the numbers

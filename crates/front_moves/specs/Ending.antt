@@ -1,5 +1,5 @@
 -- What is left where some buffers were ended, and where a front was closed.
-use Rattle.std.specs.Prelude.{◌≡◌, ℕ, ◌==◌, Bool, false, if◌then◌else◌, Some, None, List, [], ◌≤◌}
+use Rattle.std.specs.Prelude.{◌≡◌, ℕ, ◌==◌, Bool, false, if◌then◌else◌, Some, None, IsSome, List, [], ◌≤◌}
 use Rattle.std.specs.List.{list_any}
 use Rattle.cells.specs.Contents.{UNDEFINED}
 use Rattle.vk_types.specs.declared.batches.QueueSerial.{QueueSerial}
@@ -29,4 +29,5 @@ pub record HasClosed (f : Face) (s : Link) : Type 0 where
   pub none_pending : (index : ℕ) → f.pending index ≡ []
   pub none_stored : (o : Object) → f.objects o ≡ None
   pub none_held : (id : ℕ) → s.held id ≡ false
+  pub none_lost : (id : ℕ) → IsSome (s.kinds id) → IsSome (s.given id)
   pub given : (id index : ℕ) (uses : List QueueSerial) → s.given id ≡ Some uses → number_of uses index ≤ last_number (batches_of s.mine) index

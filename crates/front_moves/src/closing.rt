@@ -19,6 +19,7 @@ impl Core {
         ensures group { (face self.new).group ≡ (face self.old).group }
         ensures err { OnErr result (Owns (face self.new).objects (L.state link.new)) }
         ensures cause { HasCause (L.faults link.old) (L.faults link.new) result }
+        ensures outside { L.outside link.new ≡ L.outside link.old }
     {
         unreachable!()
     }
@@ -30,6 +31,7 @@ impl Core {
         ensures rest { L.state link.new ≡ record (L.state link.old) { held = (L.state link.new).held } }
         ensures let_go { (o : Object) (x : Stored) → (face self).objects o ≡ Some x → (L.state link.new).held x.handle ≡ false }
         ensures faults { L.faults link.old ≤ L.faults link.new }
+        ensures outside { L.outside link.new ≡ L.outside link.old }
     {
         unreachable!()
     }

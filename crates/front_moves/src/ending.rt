@@ -14,6 +14,7 @@ impl Core {
         ensures ended { HasEnded (face self.old) (face self.new) (L.state link.old) (L.state link.new) buffers.now }
         ensures pending { (face self.new).pending ≡ (face self.old).pending }
         ensures faults { L.faults link.old ≤ L.faults link.new }
+        ensures outside { L.outside link.new ≡ L.outside link.old }
     {
         for buffer in buffers {
             self.end(link, *buffer);

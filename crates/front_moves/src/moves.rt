@@ -35,6 +35,7 @@ impl Core {
         ensures group { (face self.new).group ≡ (face self.old).group }
         ensures err { OnErr result (Owns (face self.new).objects (L.state link.new)) }
         ensures cause { HasCause (L.faults link.old) (L.faults link.new) result }
+        ensures outside { L.outside link.new ≡ L.outside link.old }
     {
         match self.prepare(link, index, buffer) {
             Ok(()) => {
@@ -80,6 +81,7 @@ impl Core {
         ensures group { (face self.new).group ≡ (face self.old).group }
         ensures err { OnErr result (Owns (face self.new).objects (L.state link.new)) }
         ensures cause { HasCause (L.faults link.old) (L.faults link.new) result }
+        ensures outside { L.outside link.new ≡ L.outside link.old }
     {
         match self.prepare(link, index, src) {
             Ok(()) => match self.prepare(link, index, dst) {
@@ -108,6 +110,7 @@ impl Core {
         ensures group { (face self.new).group ≡ (face self.old).group }
         ensures err { OnErr result (Owns (face self.new).objects (L.state link.new)) }
         ensures cause { HasCause (L.faults link.old) (L.faults link.new) result }
+        ensures outside { L.outside link.new ≡ L.outside link.old }
     {
         self.end(link, buffer);
         if bytes.is_empty() {
@@ -134,6 +137,7 @@ impl Core {
         ensures group { (face self.new).group ≡ (face self.old).group }
         ensures err { OnErr result (Owns (face self.new).objects (L.state link.new)) }
         ensures cause { HasCause (L.faults link.old) (L.faults link.new) result }
+        ensures outside { L.outside link.new ≡ L.outside link.old }
     {
         self.end(link, buffer);
         if size == 0 {
@@ -154,6 +158,7 @@ impl Core {
         ensures pending { (face self.new).pending ≡ (face self.old).pending }
         ensures group { (face self.new).group ≡ (face self.old).group }
         ensures faults { L.faults link.old ≤ L.faults link.new }
+        ensures outside { L.outside link.new ≡ L.outside link.old }
     {
         end_comes_to();
         if let Some(store) = self.buffers.take(buffer) {
@@ -177,6 +182,7 @@ impl Core {
         ensures group { (face self.new).group ≡ (face self.old).group }
         ensures err { OnErr result (Owns (face self.new).objects (L.state link.new)) }
         ensures cause { HasCause (L.faults link.old) (L.faults link.new) result }
+        ensures outside { L.outside link.new ≡ L.outside link.old }
     {
         settle_comes_to();
         match self.prepare(link, index, buffer) {
@@ -211,6 +217,7 @@ impl Core {
         ensures fetched { OnOk result ((id : ℕ) × (L.state link.new ≡ fetched (L.state link.old) id at out.new)) }
         ensures err { OnErr result (Owns (face self.now).objects (L.state link.new)) }
         ensures cause { HasCause (L.faults link.old) (L.faults link.new) result }
+        ensures outside { L.outside link.new ≡ L.outside link.old }
     {
         host_comes_to();
         match self.buffers.get(buffer) {
@@ -236,6 +243,7 @@ impl Core {
             (outline_at (face self.now)) (IsQuiet (face self.now) (L.state link.old))) }
         ensures err { OnErr result (Owns (face self.now).objects (L.state link.new)) }
         ensures cause { HasCause (L.faults link.old) (L.faults link.new) result }
+        ensures outside { L.outside link.new ≡ L.outside link.old }
     {
         host_comes_to();
         match self.buffers.get(buffer) {

@@ -95,6 +95,7 @@ impl Core {
         ensures group { (face self.new).group ≡ (face self.old).group }
         ensures err { OnErr result (Owns (face self.new).objects (L.state link.new)) }
         ensures cause { HasCause (L.faults link.old) (L.faults link.new) result }
+        ensures outside { L.outside link.new ≡ L.outside link.old }
     {
         upload_comes_to();
         stopped_recording_comes_to();
@@ -213,6 +214,7 @@ impl Core {
         ensures same { OnOk result ((L.state link.new).mine ≡ (L.state link.old).mine) }
         ensures err { OnErr result (Owns (face self.now).objects (L.state link.new)) }
         ensures cause { HasCause (L.faults link.old) (L.faults link.new) result }
+        ensures outside { L.outside link.new ≡ L.outside link.old }
     {
         waiting_comes_to();
         for place in 0..8u8 {

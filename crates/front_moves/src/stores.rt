@@ -22,6 +22,7 @@ impl Core {
         ensures ok { IfOk result (λ id. HasFresh (face self.now) (L.state link.old) (L.state link.new) id.0 size None) }
         ensures err { OnErr result (Owns (face self.now).objects (L.state link.new)) }
         ensures cause { HasCause (L.faults link.old) (L.faults link.new) result }
+        ensures outside { L.outside link.new ≡ L.outside link.old }
     {
         blank_comes_to();
         link.create(Kind::Buffer { size })
@@ -34,6 +35,7 @@ impl Core {
         ensures ok { IfOk result (λ id. HasFresh (face self.now) (L.state link.old) (L.state link.new) id.0 (length bytes.now) (Some bytes.now)) }
         ensures err { OnErr result (Owns (face self.now).objects (L.state link.new)) }
         ensures cause { HasCause (L.faults link.old) (L.faults link.new) result }
+        ensures outside { L.outside link.new ≡ L.outside link.old }
     {
         filled_comes_to();
         match self.blank(link, bytes.len() as u64) {
@@ -61,6 +63,7 @@ impl Core {
         ensures uses { IfOk result (λ g. (i : ℕ) → number_of g.uses i ≡ (if i == serial.index then serial.number else 0)) }
         ensures err { OnErr result (Owns (face self.now).objects (L.state link.new)) }
         ensures cause { HasCause (L.faults link.old) (L.faults link.new) result }
+        ensures outside { L.outside link.new ≡ L.outside link.old }
     {
         filled_comes_to();
         let mut uses = ResourceUse::new(self.alloc);
@@ -91,6 +94,7 @@ impl Core {
         ensures group { (face self.new).group ≡ (face self.old).group }
         ensures err { OnErr result (Owns (face self.new).objects (L.state link.new)) }
         ensures cause { HasCause (L.faults link.old) (L.faults link.new) result }
+        ensures outside { L.outside link.new ≡ L.outside link.old }
     {
         begin_comes_to();
         filled_comes_to();

@@ -37,6 +37,7 @@ impl Model for FakeLink {
 impl FakeLink {
     ghost use Rattle.std.specs.Prelude.{◌≡◌, ◌<◌};
     ghost use Rattle.back_core.specs.Link.{IsNew};
+    ghost use Rattle.std.specs.Prelude.{[]};
     ghost use Rattle.link_fakes.specs.Fakes.{state_of};
 
     /// A back that a group has not used.
@@ -61,6 +62,8 @@ impl BackLink for FakeLink {
     ghost state = { λ f. state_of f };
 
     ghost faults = { λ f. 0 };
+
+    ghost outside = { λ f. [] };
 
     fn create(&mut self, kind: Kind) -> Result<Handle, Stop> {
         let id = HandleId(self.holdings.as_slice().len() as u64);

@@ -1,5 +1,5 @@
 use Rattle.std.proofs.Common.{refl}
-use Rattle.back_core.proofs.Sees.{enqueue_then, not_told, create_then, write_then, fetch_then, give_then, abandon_then, retire_then, asked_then}
+use Rattle.back_core.proofs.Sees.{enqueue_then, not_told, create_then, write_then, fetch_then, give_then, abandon_then, retire_then, asked_then, group_of}
 use Rattle.back_core.proofs.laws.what_a_group_sees.Goals as goal
 
 pub returns : goal.returns
@@ -13,5 +13,6 @@ returns c = record {
   abandon = abandon_then;
   retire = retire_then c.completed_numbers.ensures.rises;
   others = λ h g e. not_told c.completed_numbers.ensures.stays h g e;
+  group = group_of;
   asked = asked_then;
 }

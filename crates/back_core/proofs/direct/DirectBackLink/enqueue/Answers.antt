@@ -7,6 +7,6 @@ use Rattle.back_core.proofs.direct.DirectBackLink.enqueue.Goals as goal
 
 pub enqueue-requires : goal.enqueue-requires
 enqueue-requires g c =
-    let h = c.args.self.now.back.now.history in
+    let h = c.args.self.now.back.history in
     let group : IsOfGroup c.args.self.now.group c.args.batch.index = subst (λ k. IsOfGroup k c.args.batch.index) (group_of h c.args.self.now.group) c.requires.of_group in
     subst (λ g. MayEnqueue (link_of h g) c.args.batch) (sym (group_is c.args.batch.index c.args.self.now.group group)) c.requires
