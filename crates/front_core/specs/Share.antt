@@ -75,6 +75,11 @@ given_up (Some (n, context)) number = if n == number then None else Some n
 abbrev pub replaced_index : GroupState → Entries ℕ → ℕ → ℕ → Option ℕ
 replaced_index group serials thread number = option_and_then (λ n. entry n serials) (given_up (current_entry group thread) number)
 
+-- the index of the context that an accepted call replaces, if it does
+abbrev pub replaced_by : GroupState → Entries ℕ → ℕ → Call → Option ℕ
+replaced_by group serials thread (call.MakeCurrent number) = replaced_index group serials thread number
+replaced_by group serials thread _ = None
+
 -- the group's list grew by one host read of these bytes; no bytes need none
 abbrev pub Gains : List Own → List Own → List ℕ → Type 0
 Gains old new [] = Unit {0}

@@ -1,12 +1,12 @@
 // The calls that create, destroy and take contexts: each context has an index for its batches.
-ghost use Rattle.std.specs.Prelude.{◌≡◌, ℕ, ◌==◌, ◌<◌, false, Some, IfOk, IfSome, OnOk, OnErr};
+ghost use Rattle.std.specs.Prelude.{◌≡◌, ℕ, ◌*◌, ◌==◌, ◌<◌, ◌≤◌, true, false, [], IfOk, IfSome, IfNone, OnOk, OnErr};
 ghost use Rattle.vk_device.specs.Faults.{HasCause};
-ghost use Rattle.tables.specs.Table.{any_value, entry, has, only};
+ghost use Rattle.tables.specs.Table.{any_value, has, only};
 ghost use Rattle.back_core.specs.Needs.{IsOfGroup};
 ghost use Rattle.front_model.specs.Face.{outline_at, view};
 ghost use Rattle.front_model.specs.Stands.{Holds, Owns, Moved, IsQuiet, no_hands};
 ghost use Rattle.front_moves.specs.Core.{face};
-ghost use Rattle.front_core.specs.Share.{MayCall, IsCarriedOut, HaveIndexes};
+ghost use Rattle.front_core.specs.Share.{MayCall, IsCarriedOut, HaveIndexes, replaced_index};
 
 use crate::share::Share;
 use crate::state_calls_come_to::state_calls_come_to;
@@ -29,6 +29,8 @@ fn free_index(serials: &Table<SerialIndex>, group: u8) -> Option<SerialIndex>
     requires { group < 8 }
     ensures own { IfSome result (λ i. IsOfGroup group i) }
     ensures free { IfSome result (λ i. any_value (λ j. j == i) serials.now ≡ false) }
+    ensures lowest { IfSome result (λ i. (k : ℕ) → 8 * group ≤ k → k < i → any_value (λ j. j == k) serials.now ≡ true) }
+    ensures none { IfNone result ((k : ℕ) → IsOfGroup group k → any_value (λ j. j == k) serials.now ≡ true) }
 {
     for place in 0..8u8 {
         let index = 8 * group + place;
@@ -49,7 +51,7 @@ fn drop_indexes(serials: &mut Table<SerialIndex>, contexts: &Table<Context>)
 impl Share {
     /// The index of the context that a thread gives up as it takes another, or none.
     fn given_up(&self, thread: u32, number: u32) -> Option<SerialIndex>
-        ensures { IfSome result (λ i. (n : ℕ) × (entry n self.now.serials ≡ Some i)) }
+        ensures { result ≡ replaced_index self.now.state self.now.serials thread number }
     {
         let current = current_number(&self.state.group().contexts, thread)?;
         if current == number {
@@ -63,6 +65,7 @@ impl Share {
         requires indexes { HaveIndexes self.old.state.contexts self.old.serials (face self.old.core).group }
         requires holds { Holds (face self.old.core) no_hands (L.state link.old) }
         ensures moved { OnOk result (Moved (face self.new.core) (L.state link.new) (view (face self.old.core) (L.state link.old)) (outline_at (face self.old.core)) (IsQuiet (face self.old.core) (L.state link.old))) }
+        ensures flushed { OnOk result (IfSome (replaced_index self.old.state self.old.serials thread number) (λ i. (face self.new.core).pending i ≡ [])) }
         ensures state { self.new.state ≡ self.old.state }
         ensures serials { self.new.serials ≡ self.old.serials }
         ensures group { (face self.new.core).group ≡ (face self.old.core).group }
@@ -142,6 +145,7 @@ impl Share {
         requires may { MayCall (face self.old.core) (L.state link.old) self.old.state thread (Call.MakeCurrent number) }
         ensures done { IfOk result (λ reply. IsCarriedOut (face self.old.core) (face self.new.core) (L.state link.old) (L.state link.new) self.old.state self.new.state thread (Call.MakeCurrent number) reply) }
         ensures indexes { OnOk result (HaveIndexes self.new.state.contexts self.new.serials (face self.new.core).group) }
+        ensures flushed { OnOk result (IfSome (replaced_index self.old.state self.old.serials thread number) (λ i. (face self.new.core).pending i ≡ [])) }
         ensures group { (face self.new.core).group ≡ (face self.old.core).group }
         ensures err { OnErr result (Owns (face self.new.core).objects (L.state link.new)) }
         ensures cause { HasCause (L.faults link.old) (L.faults link.new) result }

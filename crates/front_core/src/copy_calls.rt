@@ -27,7 +27,6 @@ impl Share {
         requires may { MayCall (face self.old.core) (L.state link.old) self.old.state thread (Call.CopyBufferSubData from to read write size) }
         ensures done { IfOk result (λ reply. IsCarriedOut (face self.old.core) (face self.new.core) (L.state link.old) (L.state link.new) self.old.state self.new.state thread (Call.CopyBufferSubData from to read write size) reply) }
         ensures serials { self.new.serials ≡ self.old.serials }
-        ensures contexts { self.new.state.contexts ≡ self.old.state.contexts }
         ensures group { (face self.new.core).group ≡ (face self.old.core).group }
         ensures err { OnErr result (Owns (face self.new.core).objects (L.state link.new)) }
         ensures cause { HasCause (L.faults link.old) (L.faults link.new) result }
@@ -51,7 +50,6 @@ impl Share {
         requires may { MayCall (face self.old.core) (L.state link.old) self.old.state thread (Call.MapBufferRange target offset length access) }
         ensures done { IfOk result (λ reply. IsCarriedOut (face self.old.core) (face self.new.core) (L.state link.old) (L.state link.new) self.old.state self.new.state thread (Call.MapBufferRange target offset length access) reply) }
         ensures serials { self.new.serials ≡ self.old.serials }
-        ensures contexts { self.new.state.contexts ≡ self.old.state.contexts }
         ensures group { (face self.new.core).group ≡ (face self.old.core).group }
         ensures err { OnErr result (Owns (face self.new.core).objects (L.state link.new)) }
         ensures cause { HasCause (L.faults link.old) (L.faults link.new) result }

@@ -1,11 +1,11 @@
 // The front of a share group: its calls in turn, and their history.
-ghost use Rattle.std.specs.Prelude.{◌≡◌, ◌≤◌, ◌<◌, true, false, Contains, None, IfOk, OnOk, OnErr};
+ghost use Rattle.std.specs.Prelude.{◌≡◌, ◌≤◌, ◌<◌, true, false, Contains, None, [], IfOk, IfSome, OnOk, OnErr};
 ghost use Rattle.vk_device.specs.Faults.{HasCause};
 ghost use Rattle.gl_model.specs.Refusal.{refusal};
 ghost use Rattle.gl_model.specs.Sizes.{HasItsData};
 ghost use Rattle.front_model.specs.Stands.{Owns};
 ghost use Rattle.front_moves.specs.Core.{face};
-ghost use Rattle.front_core.specs.Share.{HasOrigin, is_built, is_map_read};
+ghost use Rattle.front_core.specs.Share.{HasOrigin, is_built, is_map_read, replaced_by};
 ghost use Rattle.front_core.specs.Front.{FrontStands, IsNewFront, HasAnswered, HasStopped, IsClosed};
 
 use crate::share::Share;
@@ -58,6 +58,7 @@ impl Front {
         requires its_data { HasItsData call.now }
         ensures ok { IfOk result (λ reply. HasAnswered self.old self.new (L.state link.new) thread line call.now reply) }
         ensures origin { IfOk result (λ reply. is_map_read call.now ≡ true → refusal self.old.state thread call.now ≡ None → HasOrigin (L.state link.old) (L.state link.new) reply) }
+        ensures flushed { OnOk result (refusal self.old.state thread call.now ≡ None → IfSome (replaced_by self.old.state self.old.serials thread call.now) (λ i. (face self.new.core).pending i ≡ [])) }
         ensures err { OnErr result (HasStopped self.old self.new (L.state link.new)) }
         ensures cause { HasCause (L.faults link.old) (L.faults link.new) result }
         ensures outside { L.outside link.new ≡ L.outside link.old }

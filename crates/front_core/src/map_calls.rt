@@ -3,7 +3,7 @@ ghost use Rattle.std.specs.Prelude.{◌≡◌, IfOk, OnErr};
 ghost use Rattle.vk_device.specs.Faults.{HasCause};
 ghost use Rattle.front_model.specs.Stands.{Owns};
 ghost use Rattle.front_moves.specs.Core.{face};
-ghost use Rattle.front_core.specs.Share.{MayCall, IsCarriedOut};
+ghost use Rattle.front_core.specs.Share.{MayCall, IsCarriedOut, HasOrigin};
 
 use crate::calls_come_to::map_calls_come_to;
 use crate::share::Share;
@@ -24,6 +24,7 @@ impl Share {
     ) -> Result<Reply, Stop>
         requires { MayCall (face self.old.core) (L.state link.old) self.old.state thread (Call.MapRead target offset length) }
         ensures done { IfOk result (λ reply. IsCarriedOut (face self.old.core) (face self.new.core) (L.state link.old) (L.state link.new) self.old.state self.new.state thread (Call.MapRead target offset length) reply) }
+        ensures origin { IfOk result (λ reply. HasOrigin (L.state link.old) (L.state link.new) reply) }
         ensures serials { self.new.serials ≡ self.old.serials }
         ensures group { (face self.new.core).group ≡ (face self.old.core).group }
         ensures err { OnErr result (Owns (face self.new.core).objects (L.state link.new)) }

@@ -23,6 +23,7 @@ impl Share {
         requires which { is_of_state call.now ≡ true }
         requires may { MayCall (face self.old.core) (L.state link.old) self.old.state thread (call.now) }
         ensures done { IfOk result (λ reply. IsCarriedOut (face self.old.core) (face self.new.core) (L.state link.old) (L.state link.new) self.old.state self.new.state thread (call.now) reply) }
+        ensures pending { (face self.new.core).pending ≡ (face self.old.core).pending }
         ensures serials { self.new.serials ≡ self.old.serials }
         ensures group { (face self.new.core).group ≡ (face self.old.core).group }
         ensures err { OnErr result (Owns (face self.new.core).objects (L.state link.new)) }
