@@ -10,7 +10,7 @@ use vk_device::Device;
 use vk_fakes::{FakeDevice, SoftDevice};
 
 // Whether a text is answered by these replies on a device.
-fn answers<D: Device>(
+fn answers<D: Device + Drop>(
     alloc: Global,
     text: Vec<u8>,
     replies: &[u8],
