@@ -31,7 +31,8 @@ impl<D: Device> Direct<D> {
     pub fn into_back(self) -> Back<D>
         ensures { result ≡ self.back }
     {
-        self.back
+        let Direct { back, group: _ } = self;
+        back
     }
 }
 
