@@ -28,5 +28,5 @@ pub use back_event::BackEvent;
 pub use back_link::BackLink;
 pub use direct::Direct;
 pub use ending::{Ending, Left, Step};
-pub use laws::{uses_are_low, what_a_group_sees, calls_stay_inside};
+pub use laws::{calls_stay_inside, uses_are_low, what_a_group_sees};
 pub use run_laws::{runs_are_sound, runs_go_on, runs_meet_the_device};
