@@ -45,6 +45,9 @@ returns-in-Some-clause-bytes g c =
     let has : contents_of s c.id.result.0 ≡ view (face k) s (Buffer c.args.buffer) = ap (λ (h : HandleId). contents_of s h.0) c.id.ensures ∙ c.host_comes_to.ensures.bytes k s c.args.buffer x c.requires.quiet is in
     on_ok c.read_host.result (λ a. subst (λ (v : ℕ → ℕ). Agrees c.read_host.new.out (cells (length c.args.out.now) (λ i. v (c.args.at + i)))) has a) c.read_host.ensures.bytes
 
+pub returns-in-Some-clause-fetched : goal.returns-in-Some-clause-fetched
+returns-in-Some-clause-fetched g c = on_ok c.read_host.result (λ e. (c.id.result.0, e)) c.read_host.ensures.ok
+
 pub returns-in-Some-clause-err : goal.returns-in-Some-clause-err
 returns-in-Some-clause-err g c =
     on_err c.read_host.result (λ e. c.host_comes_to.ensures.owns c.args.self.now (g.L.BackLink.state c.args.link.now) (g.L.BackLink.state c.read_host.new.self) c.requires.holds e) c.read_host.ensures.err
