@@ -19,6 +19,28 @@ def calls(count):
     yield b"end\n"
 
 
+def copies(count):
+    """Calls that write a part of a buffer of 8 bytes, copy it to another, and read that, with 1,000 names."""
+    yield OPENING
+    for i in range(count // 8):
+        name = 1 + (i * 7919) % 1000
+        yield (
+            b"0 bind copy_read %d\n0 bdata copy_read 8 static_draw 0102030405060708\n0 bsub copy_read 2 aabb\n"
+            b"0 bind copy_write %d\n0 bdata copy_write 8 static_draw null\n0 bcopy copy_read copy_write 0 0 8\n"
+            b"0 bmap copy_write 0 8 r\n0 mread copy_write 2 4\n" % (name, name + 1)
+        )
+    yield b"end\n"
+
+
+def recorded(count):
+    """Calls that record copies and are not waited for until the end."""
+    yield OPENING
+    yield b"0 bind array 1\n0 bdata array 8 static_draw 0102030405060708\n"
+    for i in range(count):
+        yield b"0 bsub array %d ff\n" % (i % 8)
+    yield b"0 bmap array 0 8 r\n0 mread array 0 8\nend\n"
+
+
 def one_store(size):
     """One buffer, filled and read whole."""
     yield OPENING
@@ -31,6 +53,10 @@ TEXTS = [
     ("10,000 calls", calls(10_000)),
     ("100,000 calls", calls(100_000)),
     ("1,000,000 calls", calls(1_000_000)),
+    ("10,000 calls with copies", copies(10_000)),
+    ("100,000 calls with copies", copies(100_000)),
+    ("10,000 writes of a part", recorded(10_000)),
+    ("100,000 writes of a part", recorded(100_000)),
     ("a store of 16,000,000 bytes", one_store(16_000_000)),
     ("67 MB of line feeds", repeated(b"", b"\n", 67_000_000)),
     ("67 MB, one line of spaces", repeated(OPENING, b" ", 67_000_000)),

@@ -3,7 +3,7 @@ use Rattle.std.proofs.Common.{◌≡◌, ℕ, Bool, true, false, cond, List, [],
 use Rattle.std.specs.Prelude.{All}
 use Rattle.std.specs.List.{filter}
 use Rattle.std.proofs.lemmas.List.{append-nil}
-use Rattle.std.proofs.lemmas.List.Elements.{filter-append}
+use Rattle.std.proofs.lemmas.List.Elements.{filter-append, All-head, All-tail}
 use Rattle.vk_types.specs.declared.stops.Stop.{Stop}
 use Rattle.vk_types.specs.declared.stops.Stop.TheVariants as stop
 use Rattle.back_core.specs.declared.back_event.BackEvent.{BackEvent}
@@ -40,7 +40,7 @@ progress_inside g (event.Stopped s) bad = absurd bad
 
 none_of : (g : ℕ) (more : List BackEvent) → All IsProgress more → filter (is_outside g) more ≡ []
 none_of g [] all = refl
-none_of g (e ∷ more) all = ap (λ b. cond b (e ∷ filter (is_outside g) more) (filter (is_outside g) more)) (progress_inside g e all.0) ∙ none_of g more all.1
+none_of g (e ∷ more) all = ap (λ b. cond b (e ∷ filter (is_outside g) more) (filter (is_outside g) more)) (progress_inside g e (All-head IsProgress e more all)) ∙ none_of g more (All-tail IsProgress e more all)
 
 pub outside_on : (h i : List BackEvent) (g : ℕ) → HasGoneOn h i → outside_of i g ≡ outside_of h g
 unfolding outside_of

@@ -1,5 +1,5 @@
 // A share group's way to its back.
-ghost use Rattle.std.specs.Prelude.{◌≡◌, ℕ, ◌+◌, ◌<◌, ◌≤◌, true, IfOk, IfErr, OnOk, OnErr, length};
+ghost use Rattle.std.specs.Prelude.{◌≡◌, ℕ, ◌+◌, ◌<◌, ◌≤◌, true, List, IfOk, IfErr, OnOk, OnErr, length};
 ghost use Rattle.cells.specs.Contents.{cells, Agrees};
 ghost use Rattle.vk_model.specs.Fitting.{IsKind};
 ghost use Rattle.vk_device.specs.Faults.{HasCause};

@@ -12,7 +12,6 @@ use vk_device::Device;
 use vk_types::{Batch, Handle, HandleId, Kind, QueueSerial, SerialIndex, Stop};
 
 /// The link of a group to a back that it reaches directly, and which it has meanwhile. The group knows the completed numbers.
-#[derive(Drop)]
 pub struct Direct<D: Device> {
     back: Back<D>,
     group: u8,
@@ -32,7 +31,8 @@ impl<D: Device> Direct<D> {
     pub fn into_back(self) -> Back<D>
         ensures { result ≡ self.back }
     {
-        self.back
+        let Direct { back, group: _ } = self;
+        back
     }
 }
 
