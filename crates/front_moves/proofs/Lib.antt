@@ -12,4 +12,4 @@ pub mod Uploads
 pub mod Waiting
 pub mod MovesInTurn
 pub mod EndedBuffers
-pub mod Closing
+pub mod ClosedFronts

@@ -109,7 +109,8 @@ impl Buffers {
     /// Takes the first buffer out, with its store.
     pub(crate) fn take_first(&mut self) -> Option<(u32, BufferHelper)>
         ensures some { IfSome result (λ p. TakesOne p.0 p.1 self.old self.new) }
-        ensures none { IfNone result (self.new ≡ []) }
+        ensures none { IfNone result (self.old ≡ []) }
+        ensures unchanged { IfNone result (self.new ≡ self.old) }
     {
         self.map.pop_first()
     }

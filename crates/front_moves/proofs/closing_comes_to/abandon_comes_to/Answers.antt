@@ -1,4 +1,4 @@
-use Rattle.front_moves.proofs.Closing.{lets_none_go, lets_one_go, lets_all_go}
+use Rattle.front_moves.proofs.ClosedFronts.{lets_none_go, lets_one_go, lets_all_go}
 use Rattle.front_moves.proofs.closing_comes_to.abandon_comes_to.Goals as goal
 
 pub returns : goal.returns

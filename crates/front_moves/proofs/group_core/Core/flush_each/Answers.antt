@@ -1,7 +1,7 @@
 use Rattle.std.proofs.Common.{◌≡◌, ℕ, ◌*◌, ◌+◌, refl, sym, ap, ◌∙◌, arith}
 use Rattle.back_core.specs.Link.{Link}
 use Rattle.front_moves.specs.Core.{CoreParts, face}
-use Rattle.front_moves.proofs.Closing.{flushed_to_none, flushed_one, all_flushed}
+use Rattle.front_moves.proofs.ClosedFronts.{flushed_to_none, flushed_one, all_flushed}
 use Rattle.front_moves.proofs.group_core.Core.flush_each.Goals as goal
 
 pub loop-place-init : goal.loop-place-init
@@ -23,4 +23,4 @@ loop-place-preserved g c =
     }
 
 pub returns-clause-pending : goal.returns-clause-pending
-returns-clause-pending g c = all_flushed (face c.loop-place.self) (g.L.BackLink.state c.loop-place.link) c.loop-place.invariant.flushed
+returns-clause-pending g c = all_flushed (face c.loop-place.self) (g.L.BackLink.state c.loop-place.link) c.loop-place.place c.loop-place.invariant.flushed c.loop-place-test.false

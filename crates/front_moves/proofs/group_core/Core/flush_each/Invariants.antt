@@ -1,6 +1,6 @@
 use Rattle.std.proofs.Common.{◌≡◌, ◌≤◌}
 use Rattle.front_moves.specs.Core.{face}
-use Rattle.front_moves.proofs.Closing.{IsFlushedTo}
+use Rattle.front_moves.proofs.ClosedFronts.{IsFlushedTo}
 use Rattle.front_moves.proofs.group_core.Core.flush_each.Given as goal
 
 abbrev pub invariant-loop-place : goal.invariant-loop-place

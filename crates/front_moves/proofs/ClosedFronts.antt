@@ -43,9 +43,9 @@ flushed_one f g s t index place before at h one = record {
         ap (λ p. p i) one.pending ∙ put-other f.pending index [] i other ∙ before.below i low less
 
 -- all of them
-pub all_flushed : (f : Face) (s : Link) → IsFlushedTo f s 8 → (index : ℕ) → f.pending index ≡ []
-all_flushed f s to index = elim (own_or_not f.group index) [
-  | inl own ↦ to.below index own.0 own.1
+pub all_flushed : (f : Face) (s : Link) (place : ℕ) → IsFlushedTo f s place → 8 ≤ place → (index : ℕ) → f.pending index ≡ []
+all_flushed f s place to all index = elim (own_or_not f.group index) [
+  | inl own ↦ to.below index own.0 (let high : index < 8 * f.group + 8 = own.1 in omega arith)
   | inr far ↦ to.holds.of_group index far
 ]
 
@@ -72,7 +72,7 @@ has_closed f s h pending stored = record {
 
     past : (id index number : ℕ) → IsPastUse f s id index number → number ≤ last_number (batches_of s.mine) index
     past id index number (inl low) = low
-    past id index number (inr next) = absurd (none_touched f index id (pending index) next.2.1)
+    past id index number (inr next) = absurd (none_touched f index id (pending index) next.2)
 
 -- Stores are let go one after another
 
