@@ -1,9 +1,8 @@
 -- How far the end of a front has come.
-use Rattle.std.proofs.Common.{◌≡◌, ◌≢◌, ℕ, ◌+◌, ◌*◌, ◌<◌, ◌≤◌, ◌==◌, Bool, true, false, cond, List, [], refl, sym, ap, subst, ◌∙◌, arith, inl, inr, eq-eqb}
-use Rattle.std.specs.Prelude.{◌⊎◌, Option, Some, None, IsSome}
+use Rattle.std.proofs.Common.{◌≡◌, ◌≢◌, ℕ, ◌+◌, ◌*◌, ◌<◌, ◌≤◌, ◌==◌, true, false, cond, [], refl, sym, ap, subst, ◌∙◌, arith, inl, inr, eq-eqb}
+use Rattle.std.specs.Prelude.{◌⊎◌, Option, Some, None}
 use Rattle.std.specs.Option.{option_map}
 use Rattle.std.proofs.lemmas.Bool.{cases_Bool, cases_eq, cases_lt, cond-true, cond-false, false≢true, ne_eqb}
-use Rattle.vk_types.specs.declared.batches.QueueSerial.{QueueSerial}
 use Rattle.tables.specs.Table.{Entries, entry}
 use Rattle.buffer_helper.specs.Buffers.{BufferStore}
 use Rattle.resource_use.specs.Uses.{number_of}
@@ -11,7 +10,7 @@ use Rattle.submit_queue.specs.Histories.{last_number}
 use Rattle.back_core.specs.Own.{batches_of}
 use Rattle.back_core.specs.Link.{Link, put, abandoned}
 use Rattle.front_model.specs.Face.{Object, Buffer, Texture, Renderbuffer, Stored, Face, nodes_touch}
-use Rattle.front_model.specs.Stands.{Owner, Store, no_hands, Holds, Owns, IsKnown, IsPastUse}
+use Rattle.front_model.specs.Stands.{Store, no_hands, Holds, Owns, IsKnown, IsPastUse}
 use Rattle.front_model.proofs.Base.{put_at, put-other}
 use Rattle.front_model.proofs.LinkSteps.{own_or_not}
 use Rattle.front_moves.specs.Buffers.{stored_of, objects_of, TakesOne}

@@ -1,5 +1,4 @@
-use Rattle.std.proofs.Common.{◌≡◌, refl, sym, ap, subst, ◌∙◌, arith}
-use Rattle.front_moves.specs.Core.{CoreParts, face}
+use Rattle.std.proofs.Common.{◌∙◌, arith}
 use Rattle.front_moves.proofs.group_core.Core.end_each.Goals as goal
 
 pub loop-buffer-preserved : goal.loop-buffer-preserved

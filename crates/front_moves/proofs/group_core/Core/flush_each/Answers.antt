@@ -1,5 +1,4 @@
-use Rattle.std.proofs.Common.{◌≡◌, ℕ, ◌*◌, ◌+◌, refl, sym, ap, ◌∙◌, arith}
-use Rattle.back_core.specs.Link.{Link}
+use Rattle.std.proofs.Common.{◌≡◌, ℕ, ◌*◌, ◌+◌, refl, ap, ◌∙◌, arith}
 use Rattle.front_moves.specs.Core.{CoreParts, face}
 use Rattle.front_moves.proofs.ClosedFronts.{flushed_to_none, flushed_one, all_flushed}
 use Rattle.front_moves.proofs.group_core.Core.flush_each.Goals as goal

@@ -1,5 +1,4 @@
 use Rattle.std.proofs.Common.{◌≡◌, ◌+◌, ℕ, Some, length, sym, ap, subst, ◌∙◌}
-use mathlib.Core.Path.{fun_ext}
 use Rattle.cells.specs.Contents.{cells, Agrees}
 use Rattle.vk_types.specs.declared.handles.HandleId.{HandleId}
 use Rattle.tables.specs.Table.{entry}
