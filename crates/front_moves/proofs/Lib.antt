@@ -12,3 +12,4 @@ pub mod Uploads
 pub mod Waiting
 pub mod MovesInTurn
 pub mod EndedBuffers
+pub mod ClosedFronts

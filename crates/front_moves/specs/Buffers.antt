@@ -1,5 +1,5 @@
 -- The buffers of a share group.
-use Rattle.std.specs.Prelude.{◌≡◌, ℕ, ◌==◌, if◌then◌else◌, Option, Some, None, List, []}
+use Rattle.std.specs.Prelude.{◌≡◌, ℕ, ◌<◌, ◌==◌, if◌then◌else◌, Option, Some, None, [], length}
 use Rattle.std.specs.Option.{option_map}
 use Rattle.vk_types.specs.declared.handles.Kind.TheVariants as kind
 use Rattle.vk_types.specs.declared.batches.QueueSerial.{QueueSerial}
@@ -25,3 +25,9 @@ with_use serial b = record b { uses = noted b.uses serial }
 -- one buffer has changed, where it is there, and the others are as they were
 abbrev pub ChangesOne : ℕ → (BufferStore → BufferStore) → Entries BufferStore → Entries BufferStore → Type 0
 ChangesOne b change old new = (c : ℕ) → entry c new ≡ (if c == b then option_map change (entry c old) else entry c old)
+
+-- a buffer that has this store was taken out
+pub record TakesOne (b : ℕ) (store : BufferStore) (old new : Entries BufferStore) : Type 0 where
+  pub taken : entry b old ≡ Some store
+  pub others : (c : ℕ) → entry c new ≡ (if c == b then None else entry c old)
+  pub fewer : length new < length old

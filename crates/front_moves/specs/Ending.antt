@@ -1,8 +1,10 @@
 -- What is left where some buffers were ended, and where a front was closed.
-use Rattle.std.specs.Prelude.{◌≡◌, ℕ, ◌==◌, Bool, false, if◌then◌else◌, Some, None, IsSome, List, [], ◌≤◌}
+use Rattle.std.specs.Prelude.{◌≡◌, ℕ, ◌==◌, ◌⊎◌, Bool, true, false, if◌then◌else◌, Some, None, IsSome, List, [], ◌≤◌}
 use Rattle.std.specs.List.{list_any}
 use Rattle.cells.specs.Contents.{UNDEFINED}
 use Rattle.vk_types.specs.declared.batches.QueueSerial.{QueueSerial}
+use Rattle.tables.specs.Table.{Entries, entry}
+use Rattle.buffer_helper.specs.Buffers.{BufferStore}
 use Rattle.resource_use.specs.Uses.{number_of}
 use Rattle.submit_queue.specs.Histories.{last_number}
 use Rattle.back_core.specs.Own.{batches_of}
@@ -31,3 +33,9 @@ pub record HasClosed (f : Face) (s : Link) : Type 0 where
   pub none_held : (id : ℕ) → s.held id ≡ false
   pub none_lost : (id : ℕ) → IsSome (s.kinds id) → IsSome (s.given id)
   pub given : (id index : ℕ) (uses : List QueueSerial) → s.given id ≡ Some uses → number_of uses index ≤ last_number (batches_of s.mine) index
+
+-- Of these buffers some are left: their stores are held still, and those of the others were let go.
+pub record HasLetGo (buffers left : Entries BufferStore) (s t : Link) : Type 0 where
+  pub rest : t ≡ record s { held = t.held }
+  pub held : (b : ℕ) (x : BufferStore) → entry b left ≡ Some x → (entry b buffers ≡ Some x) × (t.held x.handle.0 ≡ true)
+  pub others : (b : ℕ) (x : BufferStore) → entry b buffers ≡ Some x → (entry b left ≡ Some x) ⊎ (t.held x.handle.0 ≡ false)

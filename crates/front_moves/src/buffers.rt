@@ -1,8 +1,8 @@
 // The buffers of a share group that have a store.
-ghost use Rattle.std.specs.Prelude.{◌≡◌, ℕ, ◌==◌, ◌||◌, if◌then◌else◌, [], Some, None, OnOk, OnErr, IfErr, IfSome, IfNone, IfOk};
+ghost use Rattle.std.specs.Prelude.{◌≡◌, ℕ, ◌<◌, ◌==◌, ◌||◌, if◌then◌else◌, [], length, Some, None, OnOk, OnErr, IfErr, IfSome, IfNone, IfOk, IsSome};
 ghost use Rattle.std.specs.Option.{option_copied, option_map};
 ghost use Rattle.tables.specs.Table.{entry, with_entry, without};
-ghost use Rattle.front_moves.specs.Buffers.{with_use, ChangesOne};
+ghost use Rattle.front_moves.specs.Buffers.{with_use, ChangesOne, TakesOne};
 
 use buffer_helper::BufferHelper;
 use garbage::Garbage;
@@ -90,7 +90,36 @@ impl Buffers {
         ensures taken { result ≡ entry buffer self.old }
         ensures left { self.new ≡ without buffer self.old }
         ensures others { (c : ℕ) → entry c self.new ≡ (if c == buffer then None else entry c self.old) }
+        ensures fewer { IfSome result (λ _. length self.new < length self.old) }
     {
         self.map.remove(&buffer)
+    }
+
+    /// The first buffer that has a store.
+    pub(crate) fn first(&self) -> Option<u32>
+        ensures some { IfSome result (λ b. IsSome (entry b self.now)) }
+        ensures none { IfNone result (self.now ≡ []) }
+    {
+        match self.map.first_key_value() {
+            Some((buffer, _)) => Some(*buffer),
+            None => None,
+        }
+    }
+
+    /// Takes the first buffer out, with its store.
+    pub(crate) fn take_first(&mut self) -> Option<(u32, BufferHelper)>
+        ensures some { IfSome result (λ p. TakesOne p.0 p.1 self.old self.new) }
+        ensures none { IfNone result (self.old ≡ []) }
+        ensures unchanged { IfNone result (self.new ≡ self.old) }
+    {
+        self.map.pop_first()
+    }
+
+    /// Ends a list without buffers.
+    pub(crate) fn destroy_empty(self)
+        requires { self ≡ [] }
+    {
+        let Buffers { map } = self;
+        map.destroy_empty();
     }
 }

@@ -1,19 +1,20 @@
 // How a front ends: each context is flushed and each store given away, or each store is let go.
-ghost use Rattle.std.specs.Prelude.{◌≡◌, ◌≤◌, false, Some, OnOk, OnErr};
+ghost use Rattle.std.specs.Prelude.{◌≡◌, ℕ, ◌≤◌, [], false, Some, None, OnOk, OnErr};
 ghost use Rattle.vk_device.specs.Faults.{HasCause};
 ghost use Rattle.front_model.specs.Face.{Object, Stored};
 ghost use Rattle.front_model.specs.Stands.{Holds, Owns, no_hands};
 ghost use Rattle.front_moves.specs.Core.{face};
 ghost use Rattle.front_moves.specs.Ending.{HasClosed};
 
+use crate::closing_comes_to::{abandon_comes_to, close_comes_to};
 use crate::group_core::Core;
 use back_core::BackLink;
-use vk_types::Stop;
+use garbage::Garbage;
+use vk_types::{Reason, SerialIndex, Stop};
 
 impl Core {
     /// Flushes each context, and gives each store away. The group then holds nothing.
     pub fn close<L: BackLink>(&mut self, link: &mut L) -> Result<(), Stop>
-        requires never { ⊥ }
         requires holds { Holds (face self.old) no_hands (L.state link.old) }
         ensures closed { OnOk result (HasClosed (face self.new) (L.state link.new)) }
         ensures group { (face self.new).group ≡ (face self.old).group }
@@ -21,18 +22,71 @@ impl Core {
         ensures cause { HasCause (L.faults link.old) (L.faults link.new) result }
         ensures outside { L.outside link.new ≡ L.outside link.old }
     {
-        unreachable!()
+        close_comes_to();
+        match self.flush_each(link) {
+            Ok(()) => {
+                self.end_each(link);
+                Ok(())
+            }
+            Err(stop) => Err(stop),
+        }
+    }
+
+    /// Flushes each context of the group.
+    fn flush_each<L: BackLink>(&mut self, link: &mut L) -> Result<(), Stop>
+        requires holds { Holds (face self.old) no_hands (L.state link.old) }
+        ensures holds { OnOk result (Holds (face self.new) no_hands (L.state link.new)) }
+        ensures pending { OnOk result ((index : ℕ) → (face self.new).pending index ≡ []) }
+        ensures group { (face self.new).group ≡ (face self.old).group }
+        ensures err { OnErr result (Owns (face self.new).objects (L.state link.new)) }
+        ensures cause { HasCause (L.faults link.old) (L.faults link.new) result }
+        ensures outside { L.outside link.new ≡ L.outside link.old }
+    {
+        for place in 0..8u8 {
+            let index = SerialIndex::new(8 * self.group + place);
+            match self.flush(link, index, Reason::End) {
+                Ok(()) => {}
+                Err(stop) => return Err(stop),
+            }
+        }
+        Ok(())
+    }
+
+    /// Ends the store of each buffer.
+    fn end_each<L: BackLink>(&mut self, link: &mut L)
+        requires holds { Holds (face self.old) no_hands (L.state link.old) }
+        ensures holds { Holds (face self.new) no_hands (L.state link.new) }
+        ensures stored { (o : Object) → (face self.new).objects o ≡ None }
+        ensures pending { (face self.new).pending ≡ (face self.old).pending }
+        ensures group { (face self.new).group ≡ (face self.old).group }
+        ensures faults { L.faults link.old ≤ L.faults link.new }
+        ensures outside { L.outside link.new ≡ L.outside link.old }
+    {
+        while let Some(buffer) = self.buffers.first() {
+            self.end(link, buffer);
+        }
     }
 
     /// Lets each store go, in a run that was stopped. This takes no memory.
     pub fn abandon<L: BackLink>(self, link: &mut L)
-        requires never { ⊥ }
         requires owns { Owns (face self).objects (L.state link.old) }
         ensures rest { L.state link.new ≡ record (L.state link.old) { held = (L.state link.new).held } }
         ensures let_go { (o : Object) (x : Stored) → (face self).objects o ≡ Some x → (L.state link.new).held x.handle ≡ false }
         ensures faults { L.faults link.old ≤ L.faults link.new }
         ensures outside { L.outside link.new ≡ L.outside link.old }
     {
-        unreachable!()
+        abandon_comes_to();
+        let Core {
+            alloc: _,
+            group: _,
+            indexes: _,
+            pending: _,
+            mut buffers,
+        } = self;
+        while let Some((_, store)) = buffers.take_first() {
+            let Garbage { handle, uses: _ } = store.into_garbage();
+            link.abandon(handle);
+        }
+        buffers.destroy_empty();
     }
 }

@@ -4,6 +4,7 @@
 
 mod buffers;
 mod closing;
+mod closing_comes_to;
 mod comes_to;
 mod ending;
 mod group_core;

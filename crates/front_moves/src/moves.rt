@@ -1,6 +1,7 @@
 // The moves on the buffers of a share group.
-ghost use Rattle.std.specs.Prelude.{◌≡◌, ◌≢◌, ℕ, ◌+◌, ◌<◌, ◌≤◌, ◌⊎◌, Some, None, length, OnOk, OnErr};
+ghost use Rattle.std.specs.Prelude.{◌≡◌, ◌≢◌, ℕ, ◌+◌, ◌<◌, ◌≤◌, ◌⊎◌, Some, None, IsSome, length, OnOk, OnErr};
 ghost use Rattle.cells.specs.Contents.{cells, Agrees};
+ghost use Rattle.tables.specs.Table.{entry};
 ghost use Rattle.vk_device.specs.Faults.{HasCause};
 ghost use Rattle.back_core.specs.Link.{fetched};
 ghost use Rattle.back_core.specs.Needs.{IsOfGroup};
@@ -156,6 +157,7 @@ impl Core {
             (put_object (view (face self.old) (L.state link.old)) (Buffer buffer) (new_cells None))
             (put_object (outline_at (face self.old)) (Buffer buffer) None) (IsQuietBut (face self.old) (L.state link.old) buffer) }
         ensures pending { (face self.new).pending ≡ (face self.old).pending }
+        ensures fewer { IsSome (entry buffer self.old.buffers) → length self.new.buffers < length self.old.buffers }
         ensures group { (face self.new).group ≡ (face self.old).group }
         ensures faults { L.faults link.old ≤ L.faults link.new }
         ensures outside { L.outside link.new ≡ L.outside link.old }

@@ -1,4 +1,4 @@
-use Rattle.std.proofs.Common.{sym, subst, rules, arith}
+use Rattle.std.proofs.Common.{refl, sym, subst, ◌∙◌, rules, arith}
 use Rattle.std.specs.Prelude.{take, slice_index_or}
 use Rattle.std.proofs.lemmas.List.{take_more, take_all}
 use Rattle.front_moves.specs.Core.{face}
@@ -7,7 +7,7 @@ use Rattle.front_moves.proofs.EndedBuffers.{none_ended, one_more_ended}
 use Rattle.front_moves.proofs.group_core.Core.end_all.Goals as goal
 
 pub loop-buffer-init : goal.loop-buffer-init
-loop-buffer-init g c = record { ended = none_ended (face c.args.self.now) (g.L.BackLink.state c.args.link.now) c.requires.holds; faults = search rules }
+loop-buffer-init g c = record { ended = none_ended (face c.args.self.now) (g.L.BackLink.state c.args.link.now) c.requires.holds; pending = refl; faults = search rules; outside = refl }
 
 pub end-requires : goal.end-requires
 end-requires g c = record { holds = c.loop-buffer.invariant.ended.holds }
@@ -18,7 +18,9 @@ loop-buffer-preserved g c = record {
       (sym (take_more c.args.buffers.now c.loop-buffer.buffer-index 0 c.loop-buffer-test.true))
       (one_more_ended (face c.args.self.now) (face c.loop-buffer.self) (face c.end.new.self) (g.L.BackLink.state c.args.link.now) (g.L.BackLink.state c.loop-buffer.link) (g.L.BackLink.state c.end.new.link)
       (take c.loop-buffer.buffer-index c.args.buffers.now) (slice_index_or c.args.buffers.now c.loop-buffer.buffer-index 0) c.loop-buffer.invariant.ended c.end.ensures.moved c.end.ensures.group);
+  pending = c.end.ensures.pending ∙ c.loop-buffer.invariant.pending;
   faults = grind (arith, c.loop-buffer.invariant.faults, c.end.ensures.faults);
+  outside = c.end.ensures.outside ∙ c.loop-buffer.invariant.outside;
 }
 
 pub returns-clause-ended : goal.returns-clause-ended

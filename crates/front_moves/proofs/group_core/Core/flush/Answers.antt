@@ -37,7 +37,7 @@ returns g c =
       | in-Ok w ↦
           let h : HasFlushed (face c.args.self.now) (face d) s t c.args.index = subst (λ x. HasFlushed (face x) (face d) s t c.args.index) c.self.view_is
           (c.flush_comes_to.ensures.batch k d s t c.args.index c.place-place.result batch here.holds here.own here.at next_ w.in-Ok.ensures.room c.next-number.ensures.last core w.in-Ok.ensures.ok) in
-          rw w.result-is (record { moved = h.moved; flushed = h.flushed; group = group; log = h.log; err = tt; cause = record { later = c.enqueue.ensures.faults; lost = λ e. absurd cc } })
+          rw w.result-is (record { moved = h.moved; flushed = h.flushed; group = group; log = h.log; err = tt; cause = record { later = c.enqueue.ensures.faults; lost = λ e. absurd cc }; outside = c.enqueue.ensures.outside })
       | in-Err w ↦ rw w.result-is (record {
         moved = tt;
         flushed = tt;
@@ -45,5 +45,6 @@ returns g c =
         log = tt;
         err = rw w.in-Err.ensures.err (c.flush_comes_to.ensures.owns k s here.holds);
         cause = record { later = c.enqueue.ensures.faults; lost = λ e. absurd cc };
+        outside = c.enqueue.ensures.outside;
       })
     ]

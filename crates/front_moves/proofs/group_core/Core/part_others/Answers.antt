@@ -24,6 +24,7 @@ loop-place-preserved g c =
             some = flushed_more (face first) (face k) (face d) (g.L.BackLink.state c.args.link.now) before now c.loop-place.invariant.some some;
             apart = apart_then (face d) c.args.index c.args.buffer place other also (apart_kept (face k) (face d) c.args.index c.args.buffer place some.flushed c.loop-place.invariant.apart) (λ ne. w.in-Ok.ensures.apart);
             faults = let low = c.loop-place.invariant.faults in let later = w.part.ensures.cause.later in omega (arith, low, later);
+            outside = w.part.ensures.outside ∙ c.loop-place.invariant.outside;
           })
       | else-ne w ↦
           let same : other ≡ c.args.index = same_by_test other c.args.index c.ne.result c.ne.ensures w.if-ne.false in
@@ -31,5 +32,6 @@ loop-place-preserved g c =
             some = c.loop-place.invariant.some;
             apart = apart_then (face k) c.args.index c.args.buffer place other at c.loop-place.invariant.apart (λ ne. absurd (ne same));
             faults = c.loop-place.invariant.faults;
+            outside = c.loop-place.invariant.outside;
           })
     ]

@@ -1,5 +1,4 @@
 use Rattle.std.proofs.Common.{◌≡◌, ◌+◌, ℕ, Some, length, sym, ap, subst, ◌∙◌}
-use mathlib.Core.Path.{fun_ext}
 use Rattle.cells.specs.Contents.{cells, Agrees}
 use Rattle.vk_types.specs.declared.handles.HandleId.{HandleId}
 use Rattle.tables.specs.Table.{entry}
@@ -44,6 +43,9 @@ returns-in-Some-clause-bytes g c =
     let is : entry c.args.buffer k.buffers ≡ Some x = ap (λ (p : CoreParts). entry c.args.buffer p.buffers) (sym c.self.view_is) ∙ sym c.in-Some.ensures in
     let has : contents_of s c.id.result.0 ≡ view (face k) s (Buffer c.args.buffer) = ap (λ (h : HandleId). contents_of s h.0) c.id.ensures ∙ c.host_comes_to.ensures.bytes k s c.args.buffer x c.requires.quiet is in
     on_ok c.read_host.result (λ a. subst (λ (v : ℕ → ℕ). Agrees c.read_host.new.out (cells (length c.args.out.now) (λ i. v (c.args.at + i)))) has a) c.read_host.ensures.bytes
+
+pub returns-in-Some-clause-fetched : goal.returns-in-Some-clause-fetched
+returns-in-Some-clause-fetched g c = on_ok c.read_host.result (λ e. (c.id.result.0, e)) c.read_host.ensures.ok
 
 pub returns-in-Some-clause-err : goal.returns-in-Some-clause-err
 returns-in-Some-clause-err g c =

@@ -40,12 +40,14 @@ loop-place-preserved g c =
                 let later : g.L.BackLink.faults c.loop-place.link ≤ g.L.BackLink.faults w.wait_for.new.self = w.wait_for.ensures.cause.later in
                 let before : g.L.BackLink.faults c.args.link.now ≤ g.L.BackLink.faults c.loop-place.link = c.loop-place.invariant.faults in
                 subst (λ l. g.L.BackLink.faults c.args.link.now ≤ g.L.BackLink.faults l) (sym w.link-is) (omega arith);
+            outside = ap g.L.BackLink.outside w.link-is ∙ w.wait_for.ensures.outside ∙ c.loop-place.invariant.outside;
           }
       | else-number-gt0 w ↦ record {
         waited = subst (λ l. WaitedTo f s (g.L.BackLink.state l) c.args.buffer (c.loop-place.place + 1)) (sym w.link-is)
             (waited_more f s t t c.args.buffer c.loop-place.place c.new-index.result c.last_use-number.result c.requires.holds c.requires.untouched c.loop-place.invariant.waited
             (learns_nothing t) at c.last_use-number.ensures.used (let none : c.last_use-number.result ≤ 0 = w.if-number-gt0.false in omega arith));
         faults = subst (λ l. g.L.BackLink.faults c.args.link.now ≤ g.L.BackLink.faults l) (sym w.link-is) c.loop-place.invariant.faults;
+        outside = ap g.L.BackLink.outside w.link-is ∙ c.loop-place.invariant.outside;
       }
     ]
 

@@ -1,0 +1,16 @@
+use Rattle.std.proofs.Common.{◌≡◌, ◌≤◌, length}
+use Rattle.front_model.specs.Stands.{Holds, no_hands}
+use Rattle.front_moves.specs.Core.{face}
+use Rattle.front_moves.proofs.group_core.Core.end_each.Given as goal
+
+abbrev pub invariant-loop-buffer : goal.invariant-loop-buffer
+invariant-loop-buffer g l = record {
+  holds : Holds (face l.self) no_hands (g.L.BackLink.state l.link);
+  pending : (face l.self).pending ≡ (face l.fn.self).pending;
+  group : (face l.self).group ≡ (face l.fn.self).group;
+  faults : g.L.BackLink.faults l.fn.link ≤ g.L.BackLink.faults l.link;
+  outside : g.L.BackLink.outside l.link ≡ g.L.BackLink.outside l.fn.link;
+}
+
+abbrev pub decreases-loop-buffer : goal.decreases-loop-buffer
+decreases-loop-buffer g l = length l.self.buffers
