@@ -1,9 +1,9 @@
 -- A run of one group that let go of all that it made by giving it leaves no object on the device.
-use Rattle.std.proofs.Common.{◌≡◌, ℕ, ◌==◌, ◌+◌, Bool, true, false, cond, List, [], ◌∷◌, ◌++◌, take, refl, sym, ap, ◌∙◌, subst, inl, inr, arith}
-use Rattle.std.specs.Prelude.{◌⊎◌, ◌≤◌, ◌&&◌, nat_le, not, Some, None, Option, IsSome, slice_index}
+use Rattle.std.proofs.Common.{◌≡◌, ℕ, zero, suc, length, ◌==◌, ◌+◌, Bool, true, false, cond, List, [], ◌∷◌, ◌++◌, take, refl, sym, ap, ◌∙◌, subst, inl, inr, arith}
+use Rattle.std.specs.Prelude.{◌⊎◌, ◌<◌, slice_get, fold, ◌≤◌, ◌&&◌, nat_le, not, Some, None, Option, IsSome, slice_index}
 use Rattle.std.specs.List.{filter}
-use Rattle.std.proofs.lemmas.Bool.{cases_eq, cases_Bool, cond-true, cond-false, eq-eqb, ne_eqb, eqb-true, false≢true, and_from, le-leb}
-use Rattle.std.proofs.lemmas.List.{append-nil, append_assoc}
+use Rattle.std.proofs.lemmas.Bool.{cases_eq, cases_Bool, cases_order, cond-true, cond-false, eq-eqb, ne_eqb, eqb-true, false≢true, and_from, le-leb}
+use Rattle.std.proofs.lemmas.List.{append-nil, append_assoc, take_all, nil_from_length}
 use Rattle.std.proofs.lemmas.List.Elements.{filter-append}
 use Rattle.std.proofs.lemmas.Option.{none-some}
 use Rattle.vk_types.specs.declared.handles.HandleId.{HandleId}
@@ -21,10 +21,13 @@ use Rattle.submit_queue.specs.Histories as queue
 use Rattle.back_core.specs.declared.back_event.BackEvent.{BackEvent}
 use Rattle.back_core.specs.declared.back_event.BackEvent.TheVariants.{Created, Wrote, Enqueued, Submitted, Ran, Retired, Fetched, Gave, Abandoned, Cleaned, Closing, Stopped}
 use Rattle.back_core.specs.Link.{Link, put, created}
-use Rattle.back_core.specs.History.{queue_history, own_part, link_after, link_of, is_outside, outside_of}
-use Rattle.back_core.specs.Run.{garbage_of, garbage_after, submission, destroys, logged_by, journal_of, MayHappen, IsRun}
+use Rattle.back_core.specs.History.{queue_history, completed, own_part, link_after, link_of, is_outside, outside_of}
+use Rattle.back_core.specs.Run.{garbage_of, garbage_after, covered_in, submission, destroys, logged_by, journal_of, MayHappen, IsRun}
+use Rattle.back_core.specs.Steps.{AreCompleted, IsAllGiven, cleaned}
 use Rattle.back_core.proofs.Sees.{part_then, if_own_is, group_of}
 use Rattle.back_core.proofs.Runs.{of_each_run, journal_nil, journal_then, garbage_then}
+use Rattle.back_core.proofs.Parts.{pushed}
+use Rattle.back_core.proofs.Going.{numbered, completed_below}
 use Rattle.back_core.proofs.Made.{none_or_some, put_here, IsMade}
 use Rattle.back_core.proofs.Adding.{made_still}
 use Rattle.back_core.proofs.Piles.{IsIn, in_front, in_back}
@@ -216,3 +219,37 @@ all_covered read (u ∷ uses) distinct le = and_from (nat_le u.number (slice_ind
         go : (u.index ≡ index) ⊎ (u.index ≡ index → ⊥) → number_of uses index ≤ slice_index read index
         go (inl same) = omega (arith, subst (λ k. number_of uses k ≡ 0) same (absent_zero uses u.index distinct.0))
         go (inr other) = omega (arith, le index, cond-false (u.index == index) u.number (number_of uses index) (ne_eqb u.index index other))
+
+-- The cleanup
+
+-- no number of an index that no batch has
+none_last : (xs : List Batch) (n i : ℕ) → ((k : ℕ) (b : Batch) → slice_get xs k ≡ Some b → b.index ≡ i → ⊥) → fold (λ n (b : Batch). cond (b.index == i) b.number n) n xs ≡ n
+none_last [] n i never = refl
+none_last (b ∷ xs) n i never =
+    ap (λ m. fold (λ n (b : Batch). cond (b.index == i) b.number n) m xs) (cond-false (b.index == i) b.number n (ne_eqb b.index i (never 0 b refl)))
+    ∙ none_last xs n i (λ k c at. never (suc k) c at)
+
+high_zero : (h : List BackEvent) → IsRun h → (i : ℕ) → 64 ≤ i → completed h i ≡ 0
+high_zero h run i high =
+    let none : queue.last_number (pushed h) i ≡ 0 = none_last (pushed h) 0 i (λ k b at same. omega (arith, (numbered h run).low k b at, same, high)) in
+    omega (arith, completed_below h run i, none)
+
+journal_cleaned : (h : List BackEvent) (read : List ℕ) (count : ℕ) → count ≡ length (covered_in h read) → journal_of (cleaned h read count) ≡ journal_of h ++ destroys (covered_in h read)
+journal_cleaned h read zero all =
+    let none : covered_in h read ≡ [] = nil_from_length (covered_in h read) (sym all) in
+    sym (append-nil (journal_of h)) ∙ ap (λ l. journal_of h ++ destroys l) (sym none)
+journal_cleaned h read (suc count) all =
+    ap journal_of (cond-false (suc count == 0) h (h ++ Cleaned read (suc count) ∷ []) (ne_eqb (suc count) 0 (λ e. absurd (omega (arith, e)))))
+    ∙ journal_then h (Cleaned read (suc count))
+    ∙ ap (λ l. journal_of h ++ destroys l) (take_all (suc count) (covered_in h read) (omega (arith, all)))
+
+pub cleaned_clean : (h : List BackEvent) (g count : ℕ) (read : List ℕ) → IsRun h → outside_of h g ≡ [] → IsAllGiven h g → AreCompleted h read
+    → count ≡ length (collect (garbage_of h) read).0 → (id : ℕ) → kind_of (journal_of (cleaned h read count)) id ≡ None
+cleaned_clean h g count read run none all are counted id =
+    ap (λ j. kind_of j id) (journal_cleaned h read count counted)
+    ∙ ends_clean h g read run none all.given (λ i uses given. all_covered read uses (all.distinct i uses given) (λ index. low i uses given index (cases_order index 64))) id
+  where
+    low : (i : ℕ) (uses : List QueueSerial) → (link_of h g).given i ≡ Some uses → (index : ℕ) → (index ≡ 64) ⊎ ((index < 64) ⊎ (64 < index)) → number_of uses index ≤ slice_index read index
+    low i uses given index (inl is) = omega (arith, all.reached i uses given index, high_zero h run index (omega (arith, is)))
+    low i uses given index (inr (inl lt)) = omega (arith, all.reached i uses given index, are index lt)
+    low i uses given index (inr (inr high)) = omega (arith, all.reached i uses given index, high_zero h run index (omega (arith, high)))
