@@ -37,4 +37,5 @@ mod Given
 mod Lives
 mod Fits
 mod Meets
-pub mod Outside
+mod Outside
+mod EndsClean

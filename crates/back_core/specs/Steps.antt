@@ -1,5 +1,5 @@
 -- What the calls of a back leave of its history.
-use Rattle.std.specs.Prelude.{◌≡◌, ℕ, ◌+◌, ◌&&◌, is_none, Option, ◌<◌, ◌≤◌, ◌/◌, ◌==◌, List, [], ◌∷◌, ◌++◌, length, take, All, Some, None, false, if◌then◌else◌}
+use Rattle.std.specs.Prelude.{◌≡◌, ℕ, ◌+◌, ◌&&◌, is_none, Option, ◌<◌, ◌≤◌, ◌/◌, ◌==◌, List, [], ◌∷◌, ◌++◌, length, take, All, Some, None, IsSome, slice_index, false, if◌then◌else◌}
 use Rattle.vk_types.specs.declared.stops.Stop.{Stop}
 use Rattle.vk_types.specs.declared.batches.Batch.{Batch}
 use Rattle.vk_types.specs.declared.batches.QueueSerial.{QueueSerial}
@@ -7,6 +7,7 @@ use Rattle.vk_device.specs.declared.logged.Logged.{Logged}
 use Rattle.vk_device.specs.declared.logged.Turned.{Turned}
 use Rattle.vk_device.specs.declared.logged.Turned.TheVariants.{Ran, Idle}
 use Rattle.vk_device.specs.Order.{AllRan}
+use Rattle.resource_use.specs.Uses.{number_of, AreDistinct}
 use Rattle.garbage.specs.declared.entry.Garbage.{Garbage}
 use Rattle.garbage.specs.Collecting.{collect}
 use Rattle.submit_queue.specs.Histories as queue
@@ -91,6 +92,28 @@ pub record CleansSome {D : Type 0} (journal : D → List Logged) (old new : Back
   pub fewer : count < length (covered_in old.history read)
   pub destroyed : journal new.device ≡ journal old.device ++ destroys (take count (covered_in old.history read))
   pub history : new.history ≡ stopped_by (old.history ++ event.Cleaned read count ∷ []) stop
+
+-- the completed numbers of all indexes
+abbrev pub AreCompleted : List BackEvent → List ℕ → Type 0
+AreCompleted history read = (index : ℕ) → index < 64 → slice_index read index ≡ completed history index
+
+-- what these numbers cover was destroyed, all of it
+pub record CleansAll {D : Type 0} (journal : D → List Logged) (old new : BackModel D) (count : ℕ) : Type 0 where
+  pub read : List ℕ
+  pub are : AreCompleted old.history read
+  pub cleans : CleansUp journal old new read count
+
+-- and the first ones of it, where a stop came
+pub record CleansSomeOfAll {D : Type 0} (journal : D → List Logged) (old new : BackModel D) (stop : Stop) : Type 0 where
+  pub read : List ℕ
+  pub are : AreCompleted old.history read
+  pub cleans : CleansSome journal old new read stop
+
+-- each object that the group made was given away, with uses that are completed
+pub record IsAllGiven (history : List BackEvent) (g : ℕ) : Type 0 where
+  pub given : (id : ℕ) → IsSome ((link_of history g).kinds id) → IsSome ((link_of history g).given id)
+  pub distinct : (id : ℕ) (uses : List QueueSerial) → (link_of history g).given id ≡ Some uses → AreDistinct uses
+  pub reached : (id : ℕ) (uses : List QueueSerial) → (link_of history g).given id ≡ Some uses → (index : ℕ) → number_of uses index ≤ completed history index
 
 -- no batch that was or will be handed to the back touches what these numbers cover
 pub record IsForgotten (history : List BackEvent) (read : List ℕ) (item : Garbage) : Type 0 where

@@ -1,19 +1,22 @@
 // Destroying garbage, and the end of a back.
-ghost use Rattle.std.specs.Prelude.{◌≡◌, ◌≢◌, ◌≤◌, Some, Err, IfOk, IfErr, Contains};
+ghost use Rattle.std.specs.Prelude.{◌≡◌, ◌≢◌, ◌≤◌, ℕ, [], Some, None, Err, IfOk, IfErr, OnOk, Contains};
 ghost use Rattle.faults.specs.Faults.{Rose};
 ghost use Rattle.vk_types.specs.declared.stops.Stop.TheVariants.{Lost, Memory};
 ghost use Rattle.vk_device.specs.Faults.{HasCause};
+ghost use Rattle.vk_device.specs.Journal.{kind_of};
 ghost use Rattle.vk_device.specs.Running.{IsInOrder};
 ghost use Rattle.garbage.specs.declared.entry.Garbage.{Garbage};
+ghost use Rattle.back_core.specs.History.{outside_of};
 ghost use Rattle.back_core.specs.Run.{IsRun, WereRead, journal_of, covered_in};
-ghost use Rattle.back_core.specs.Steps.{CleansBy, CleansUp, CleansSome, IsForgotten};
+ghost use Rattle.back_core.specs.Steps.{CleansBy, CleansUp, CleansSome, CleansAll, CleansSomeOfAll, AreCompleted, IsAllGiven, IsForgotten};
 
 use crate::cleaning::{Destroyed, abandon_all, destroy_covered};
+use crate::end_laws::runs_end_clean;
 use crate::run_laws::{runs_go_on, runs_meet_the_device};
 use crate::stored::Stored;
 use crate::{Back, BackEvent};
 use vk_device::Device;
-use vk_types::Stop;
+use vk_types::{SerialIndex, Stop};
 
 impl<D: Device> Back<D> {
     /// Destroys the garbage that these completed numbers cover, in order, and gives its count. When the device is lost,
@@ -58,6 +61,32 @@ impl<D: Device> Back<D> {
         }));
         self.promised -= 1;
         done
+    }
+
+    /// Destroys the garbage that the completed numbers of all indexes cover. After it a run of one group in which each
+    /// object was given away, with uses that are completed, has left no object on the device.
+    pub fn clean_all(&mut self) -> Result<u64, Stop>
+        ensures ok { IfOk result (λ count. CleansAll D.journal self.old self.new count) }
+        ensures err { IfErr result (λ stop. CleansSomeOfAll D.journal self.old self.new stop) }
+        ensures clean { OnOk result ((g : ℕ) → outside_of self.old.history g ≡ [] → IsAllGiven self.old.history g → (id : ℕ) → kind_of (journal_of self.new.history) id ≡ None) }
+        ensures no_memory { result ≢ Err Memory }
+        ensures cause { HasCause (D.faults self.old.device) (D.faults self.new.device) result }
+    {
+        runs_end_clean();
+        let _ = &self.alloc;
+        let read = self.all_completed();
+        self.cleanup(&read)
+    }
+
+    // The completed numbers of all indexes.
+    fn all_completed(&self) -> [u64; 64]
+        ensures { AreCompleted self.now.history result }
+    {
+        let mut read = [0; 64];
+        for index in 0..64u8 {
+            read[usize::from(index)] = self.completed(SerialIndex::new(index));
+        }
+        read
     }
 
     /// Gives the device back, and lets the garbage that is left go.

@@ -7,7 +7,7 @@ ghost use Rattle.back_core.specs.Needs.{HasBatch};
 ghost use Rattle.back_core.specs.Answers.{Learns};
 ghost use Rattle.back_core.specs.History.{queue_history, completed, link_of};
 ghost use Rattle.back_core.specs.Back.{stopped_by};
-ghost use Rattle.back_core.specs.Steps.{Submits, Turns, RetiresOne, Proceeds, HasGoneOn, HasStopped};
+ghost use Rattle.back_core.specs.Steps.{Submits, Turns, RetiresOne, IsIdle, Proceeds, HasGoneOn, HasStopped};
 
 use crate::run_laws::{runs_are_sound, runs_go_on, runs_meet_the_device};
 use crate::stored::Stored;
@@ -131,6 +131,23 @@ impl<D: Device> Back<D> {
                 return Ok(());
             }
             reached = self.completed(serial.index);
+        }
+        Ok(())
+    }
+
+    /// Goes on until nothing is left to do: each batch was submitted, run and retired.
+    pub fn settle_all(&mut self) -> Result<(), Stop>
+        ensures ok { OnOk result (HasGoneOn self.old.history self.new.history) }
+        ensures idle { OnOk result (IsIdle self.new.history) }
+        ensures err { IfErr result (λ stop. HasStopped self.old.history self.new.history stop) }
+        ensures cause { HasCause (D.faults self.old.device) (D.faults self.new.device) result }
+    {
+        let mut going = true;
+        while going {
+            going = match self.go_on()? {
+                Step::Done => true,
+                Step::Nothing => false,
+            };
         }
         Ok(())
     }
