@@ -1,5 +1,5 @@
 // Batches without nodes, and garbage, through a link.
-ghost use Rattle.std.specs.Prelude.{◌≡◌, IfOk};
+ghost use Rattle.std.specs.Prelude.{◌≡◌, [], IfOk, OnOk};
 ghost use Rattle.back_core.specs.Link.{IsNew};
 ghost use Rattle.back_tests.specs.Copying.{HasThree};
 
@@ -58,6 +58,8 @@ fn create_three<L: BackLink>(link: &mut L) -> Result<(Handle, Handle, Handle), S
 /// Gives three new buffers away, of which the second is used by the next batch of the first index.
 pub(crate) fn give_three<L: BackLink>(alloc: Global, link: &mut L) -> Result<(), Stop>
     requires { IsNew (L.state link.old) 0 }
+    ensures group { OnOk result ((L.state link.new).group ≡ 0) }
+    ensures unused { OnOk result ((L.state link.new).mine ≡ []) }
 {
     let mut used = ResourceUse::new(alloc);
     used.note(QueueSerial {
@@ -78,4 +80,15 @@ pub(crate) fn give_three<L: BackLink>(alloc: Global, link: &mut L) -> Result<(),
         uses: ResourceUse::new(alloc),
     });
     Ok(())
+}
+
+/// Gives three new buffers away, and enqueues the batch that uses the second of them.
+pub(crate) fn give_and_enqueue<L: BackLink>(alloc: Global, link: &mut L) -> Result<(), Stop>
+    requires { IsNew (L.state link.old) 0 }
+{
+    give_three(alloc, link)?;
+    match link.enqueue(batch_of(alloc, SerialIndex::new(0), 1, Vec::new(alloc))) {
+        Ok(()) => Ok(()),
+        Err(_) => Err(Stop::Memory),
+    }
 }

@@ -2,7 +2,7 @@
 ghost use Rattle.std.specs.Prelude.{◌≡◌, ℕ, [], length, slice_index};
 
 use crate::copying::copy_between;
-use crate::queueing::{enqueue_three, give_three};
+use crate::queueing::{enqueue_three, give_and_enqueue, give_three};
 use back_core::{Back, Direct, Ending, Left, Step};
 use std::alloc::Global;
 use vk_device::{Device, Turned};
@@ -114,6 +114,39 @@ pub(crate) fn clean<D: Device>(alloc: Global, device: D) -> Result<Cleaned<D>, D
     Ok(Cleaned {
         gave,
         counts,
+        left,
+        device: back.finish(),
+    })
+}
+
+/// What a back answered that did all that was left.
+#[derive(Drop)]
+pub(crate) struct Settled<D> {
+    pub(crate) gave: Result<(), Stop>,
+    pub(crate) settled: Result<(), Stop>,
+    pub(crate) cleaned: Result<u64, Stop>,
+    pub(crate) left: Left,
+    pub(crate) device: D,
+}
+
+/// Gives three objects away, and does all that is left.
+pub(crate) fn settle<D: Device>(alloc: Global, device: D) -> Result<Settled<D>, D>
+    requires { D.journal device ≡ [] }
+{
+    let back = match Back::new(alloc, device) {
+        Ok(back) => back,
+        Err(device) => return Err(device),
+    };
+    let mut link = Direct::new(back, 0);
+    let gave = give_and_enqueue(alloc, &mut link);
+    let mut back = link.into_back();
+    let settled = back.settle_all();
+    let cleaned = back.clean_all();
+    let left = back.left();
+    Ok(Settled {
+        gave,
+        settled,
+        cleaned,
         left,
         device: back.finish(),
     })

@@ -1,7 +1,7 @@
 // Backs over devices in memory.
 ghost use Rattle.std.specs.Prelude.{◌<◌};
 
-use crate::runs::{clean, copy, queue};
+use crate::runs::{clean, copy, queue, settle};
 use back_core::{Ending, Left, Step};
 use std::test::Fail;
 use vk_device::{Device, Logged, Turned};
@@ -118,5 +118,39 @@ fn covered_garbage_is_destroyed_in_order(rt: HostRuntime) -> Result<(), Fail> {
     assert_eq!(rt; journal.len(), 5);
     assert!(rt; matches!(journal.get(3), Some(Logged::Destroyed { id: HandleId(0) })));
     assert!(rt; matches!(journal.get(4), Some(Logged::Destroyed { id: HandleId(2) })));
+    Ok(())
+}
+
+#[test]
+fn a_settled_run_leaves_no_object(rt: HostRuntime) -> Result<(), Fail> {
+    let alloc = rt.alloc();
+    let done = match settle(alloc, FakeDevice::first(alloc)) {
+        Ok(done) => done,
+        Err(_) => return Err(Fail::from("no memory")),
+    };
+    assert_eq!(rt; done.gave, Ok(()));
+    assert_eq!(rt; done.settled, Ok(()));
+    assert_eq!(rt; done.cleaned, Ok(3));
+    assert_eq!(rt;
+        done.left,
+        Left {
+            flushed: false,
+            nodes: false,
+            batches: false,
+            garbage: false
+        }
+    );
+    let journal = done.device.journal();
+    let mut created = 0u8;
+    let mut destroyed = 0u8;
+    for entry in journal {
+        match entry {
+            Logged::Created { .. } => created = created.saturating_add(1),
+            Logged::Destroyed { .. } => destroyed = destroyed.saturating_add(1),
+            _ => {}
+        }
+    }
+    assert_eq!(rt; created, 3);
+    assert_eq!(rt; destroyed, 3);
     Ok(())
 }
