@@ -53,7 +53,7 @@ destroyed_gone [] journal item is = absurd is
 destroyed_gone (x ∷ items) journal item (inl same) =
     ap (λ j. kind_of j item.handle.0) (sym (append_assoc journal (logged.Destroyed x.handle ∷ []) (destroys items)))
     ∙ gone_stays items (journal ++ logged.Destroyed x.handle ∷ []) item.handle.0
-        (kind_after journal (logged.Destroyed x.handle) item.handle.0 ∙ cond-true (item.handle.0 == x.handle.0) None (kind_of journal item.handle.0) (eq-eqb item.handle.0 x.handle.0 (ap (λ (y : Garbage). y.handle.0) (sym same))))
+    (kind_after journal (logged.Destroyed x.handle) item.handle.0 ∙ cond-true (item.handle.0 == x.handle.0) None (kind_of journal item.handle.0) (eq-eqb item.handle.0 x.handle.0 (ap (λ (y : Garbage). y.handle.0) (sym same))))
 destroyed_gone (x ∷ items) journal item (inr more) =
     ap (λ j. kind_of j item.handle.0) (sym (append_assoc journal (logged.Destroyed x.handle ∷ []) (destroys items)))
     ∙ destroyed_gone items (journal ++ logged.Destroyed x.handle ∷ []) item more
@@ -192,7 +192,7 @@ ends_clean h g read run none given covered i = go (made_or_gone g h run none i)
         let same : has.0.uses ≡ uses = item_uses h run g i uses has.0 is has.1 has.2 in
         let test : is_covered read has.0 ≡ true = ap (are_covered read) same ∙ covered i uses is in
         subst (λ k. kind_of (journal_of h ++ destroys (filter (is_covered read) (garbage_of h))) k ≡ None) has.2
-            (destroyed_gone (filter (is_covered read) (garbage_of h)) (journal_of h) has.0 (kept_by (is_covered read) (garbage_of h) has.0 has.1 test))
+        (destroyed_gone (filter (is_covered read) (garbage_of h)) (journal_of h) has.0 (kept_by (is_covered read) (garbage_of h) has.0 has.1 test))
 
     go : MadeOrGone g h i → kind_of (journal_of h ++ destroys (filter (is_covered read) (garbage_of h))) i ≡ None
     go (inl gone) = gone_stays (filter (is_covered read) (garbage_of h)) (journal_of h) i gone

@@ -13,5 +13,5 @@ returns-clause-clean g c =
     let old = c.args.self.now.history in
     let run : IsRun old = subst (λ (m : BackModel _). IsRun m.history) c.self.view_is c.self.invariant.0.run in
     IfOk-weaker c.cleanup.result _ (λ count. (k : ℕ) → outside_of old k ≡ [] → IsAllGiven old k → (id : ℕ) → kind_of (journal_of c.cleanup.new.self.history) id ≡ None)
-        (λ count up k none all id. subst (λ l. kind_of (journal_of l) id ≡ None) (sym up.history) (c.runs_end_clean.ensures.cleaned old k count c.all_completed-read.result run none all c.all_completed-read.ensures up.counted id))
-        c.cleanup.ensures.ok
+    (λ count up k none all id. subst (λ l. kind_of (journal_of l) id ≡ None) (sym up.history) (c.runs_end_clean.ensures.cleaned old k count c.all_completed-read.result run none all c.all_completed-read.ensures up.counted id))
+    c.cleanup.ensures.ok
