@@ -28,6 +28,7 @@ use Rattle.gl_model.specs.Effect.{effect}
 use Rattle.gl_model.specs.Legal.{Answers, GlAnswers, GlAnswersIn}
 use Rattle.gl_model.specs.Refusal.{refusal, gl_refusal}
 use Rattle.gl_calls.specs.Egl.{is_egl_call}
+use Rattle.back_core.specs.Own.{Own, HostRead}
 use Rattle.back_core.specs.Link.{Link}
 use Rattle.front_model.specs.Face.{Object, Buffer, Face, Outline, outline, outline_at, put_object, view}
 use Rattle.front_model.specs.Stands.{Moved, IsQuiet, Holds, no_hands}
@@ -35,7 +36,7 @@ use Rattle.front_model.specs.Wanted.{buffer_kind, kind_wanted, wanted, AgreeWith
 use Rattle.front_moves.proofs.BufferLaws.{put_object-same_value}
 use Rattle.front_moves.specs.Buffers.{stored_of}
 use Rattle.front_moves.specs.Core.{CoreParts, face, HasStore, outline_of_size}
-use Rattle.front_core.specs.Share.{MayCall, IsStateOf, IsCarriedOut}
+use Rattle.front_core.specs.Share.{MayCall, IsStateOf, IsCarriedOut, Gains}
 
 -- the context that is current where a call of OpenGL ES was accepted
 pub context_of : (group : GroupState) (thread : ℕ) (asked : Call) → gl_refusal group (current_context group thread) asked ≡ None → (context : Context) × (current_context group thread ≡ Some context)
@@ -183,6 +184,11 @@ wrote_nothing f s b at bytes none holds = record {
 }
 
 -- Bytes that were read
+
+-- the bytes of a reply are those of the host read that was made
+pub gained : (old new : List Own) (id at : ℕ) (bytes : List ℕ) → new ≡ old ++ HostRead id at bytes ∷ [] → Gains old new bytes
+gained old new id at [] is = tt
+gained old new id at (b ∷ bytes) is = (id, at, is)
 
 pub moved_none : (f : Face) (s : Link) → Holds f no_hands s → Moved f s (view f s) (outline_at f) (IsQuiet f s)
 moved_none f s holds = record { holds = holds; view_is = refl; outlines_are = refl; still = λ o quiet. quiet }

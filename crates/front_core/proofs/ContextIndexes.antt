@@ -1,5 +1,5 @@
 -- Each context has an index of its own still as contexts come and go.
-use Rattle.std.proofs.Common.{◌≡◌, ◌≢◌, ℕ, ◌==◌, ◌||◌, Bool, true, false, cond, Option, Some, None, [], ◌∷◌, map, refl, sym, ◌∙◌, ap, subst, is_some}
+use Rattle.std.proofs.Common.{arith, ◌≡◌, ◌≢◌, ℕ, ◌+◌, ◌<◌, ◌≤◌, ◌==◌, ◌||◌, Bool, true, false, cond, Option, Some, None, [], ◌∷◌, map, refl, sym, ◌∙◌, ap, subst, is_some}
 use Rattle.std.specs.Ordering.{nat_cmp}
 use Rattle.std.specs.BTreeMap.{is_at}
 use Rattle.std.specs.List.{filter}
@@ -103,3 +103,17 @@ same_entries (e ∷ t) = ap (λ rest. e ∷ rest) (same_entries t)
 pub indexes_of_equal : (x y : Entries Context) (p q : Entries ℕ) (m n : ℕ) → x ≡ y → p ≡ q → m ≡ n → HaveIndexes y q n → HaveIndexes x p m
 indexes_of_equal x y p q m n contexts serials group h =
     subst (λ k. HaveIndexes x p k) (sym group) (subst (λ t. HaveIndexes x t n) (sym serials) (subst (λ t. HaveIndexes t q n) (sym contexts) h))
+
+-- each index of a range is that of a context
+abbrev pub AreTaken : Entries ℕ → ℕ → ℕ → Type 0
+AreTaken serials low high = (k : ℕ) → low ≤ k → k < high → any_value (λ j. j == k) serials ≡ true
+
+pub none_taken : (serials : Entries ℕ) (low : ℕ) → AreTaken serials low (low + 0)
+none_taken serials low k above below = absurd (omega arith)
+
+pub one_more_taken : (serials : Entries ℕ) (low place : ℕ) → AreTaken serials low (low + place) → any_value (λ j. j == low + place) serials ≡ true → AreTaken serials low (low + (place + 1))
+one_more_taken serials low place before this k above below = by_last (k == low + place) refl
+  where
+    by_last : (b : Bool) → (k == low + place) ≡ b → any_value (λ j. j == k) serials ≡ true
+    by_last true is = subst (λ i. any_value (λ j. j == i) serials ≡ true) (sym (eqb-true k (low + place) is)) this
+    by_last false is = before k above (let other : k ≢ low + place = λ e. false≢true (sym is ∙ eq-eqb k (low + place) e) in omega arith)

@@ -1,14 +1,17 @@
 -- A call after a flush is a call from before it.
 use Rattle.std.proofs.Common.{◌≡◌, ℕ, sym, ◌∙◌, ap, subst}
-use Rattle.std.specs.Prelude.{Option}
+use Rattle.std.specs.Prelude.{Option, Some, IfSome, Result, Ok, Err, OnOk, List, []}
 use Rattle.std.specs.Option.{option_map}
 use Rattle.gl_calls.specs.declared.call.Call.{Call}
 use Rattle.gl_calls.specs.declared.reply.Reply.{Reply}
 use Rattle.gl_model.specs.declared.state.GroupState.{GroupState}
+use Rattle.vk_types.specs.declared.ops.Node.{Node}
 use Rattle.back_core.specs.Link.{Link}
 use Rattle.front_model.specs.Face.{Object, Buffer, Face, Outline, outline_at, view}
 use Rattle.front_model.specs.Stands.{Moved, IsQuiet}
 use Rattle.front_model.specs.Wanted.{wanted, AgreeWith}
+use Rattle.front_model.proofs.Base.{put-same}
+use Rattle.front_moves.specs.Core.{IsFlushed}
 use Rattle.front_core.specs.Share.{MayCall, IsCarriedOut}
 
 pub may_still : (f h : Face) (s u : Link) (group : GroupState) (thread : ℕ) (asked : Call) → MayCall f s group thread asked → Moved h u (view f s) (outline_at f) (IsQuiet f s) → MayCall h u group thread asked
@@ -32,3 +35,12 @@ carried_from f h g s u t group after thread asked answer same x = record {
   agrees = λ state place is agree. x.agrees state place is (subst (λ v. AgreeWith v (wanted state)) (sym same) agree);
   answers = λ state is agree. x.answers state is (subst (λ v. AgreeWith v (wanted state)) (sym same) agree);
 }
+
+-- what is pending in the index that was flushed, where that is the one to be replaced
+pub flushed_pending : {A E : Type 0} (r : Result A E) (f g : Face) (index : ℕ) (replaced : Option ℕ) → Some index ≡ replaced → OnOk r (IsFlushed f g index) → OnOk r (IfSome replaced (λ i. g.pending i ≡ []))
+flushed_pending (Err e) f g index replaced is flushed = tt
+flushed_pending (Ok a) f g index replaced is flushed = subst (λ o. IfSome o (λ i. g.pending i ≡ [])) is (ap (λ (p : ℕ → List Node). p index) flushed.pending ∙ put-same f.pending index [])
+
+-- what is pending in that index after a call that leaves all that is pending
+pub flushed_still : (o : Option ℕ) (f g : ℕ → List Node) → g ≡ f → IfSome o (λ i. f i ≡ []) → IfSome o (λ i. g i ≡ [])
+flushed_still o f g same flushed = subst (λ (p : ℕ → List Node). IfSome o (λ i. p i ≡ [])) (sym same) flushed

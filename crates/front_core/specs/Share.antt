@@ -1,5 +1,5 @@
 -- A share group's state and objects together, and what a call does to them.
-use Rattle.std.specs.Prelude.{◌≡◌, ◌≢◌, ℕ, ◌==◌, Bool, true, false, if◌then◌else◌, Option, Some, None, List, [], ◌∷◌, ◌++◌}
+use Rattle.std.specs.Prelude.{◌≡◌, ◌≢◌, ℕ, ◌*◌, ◌<◌, ◌≤◌, ◌==◌, Bool, true, false, if◌then◌else◌, Option, Some, None, List, [], ◌∷◌, ◌++◌}
 use Rattle.std.specs.Option.{option_map, option_and_then}
 use Rattle.gl_calls.specs.declared.call.Call.{Call}
 use Rattle.gl_calls.specs.declared.call.Call.TheVariants as call
@@ -7,7 +7,7 @@ use Rattle.gl_calls.specs.declared.words.ObjectKind.TheVariants as kinds
 use Rattle.gl_calls.specs.declared.words.BindTarget.TheVariants as targets
 use Rattle.gl_calls.specs.declared.reply.Reply.{Reply}
 use Rattle.gl_calls.specs.declared.reply.Reply.TheVariants as reply
-use Rattle.tables.specs.Table.{Entries, entry, has}
+use Rattle.tables.specs.Table.{Entries, entry, has, any_value}
 use Rattle.gl_model.specs.declared.state.Context.{Context}
 use Rattle.gl_model.specs.declared.state.GroupState.{GroupState}
 use Rattle.gl_model.specs.Bindings.{current_entry}
@@ -52,6 +52,12 @@ pub record HaveIndexes (contexts : Entries Context) (serials : Entries ℕ) (gro
   pub each : (n : ℕ) → has n serials ≡ has n contexts
   pub of_group : (n i : ℕ) → entry n serials ≡ Some i → IsOfGroup group i
   pub distinct : (n m i : ℕ) → entry n serials ≡ Some i → entry m serials ≡ Some i → n ≡ m
+
+-- the lowest index of a group that no context has
+pub record IsLowestFree (group : ℕ) (serials : Entries ℕ) (index : ℕ) : Type 0 where
+  pub own : IsOfGroup group index
+  pub free : any_value (λ j. j == index) serials ≡ false
+  pub lowest : (k : ℕ) → 8 * group ≤ k → k < index → any_value (λ j. j == k) serials ≡ true
 
 -- the index of the context that is current on a thread
 abbrev pub current_index : GroupState → Entries ℕ → ℕ → Option ℕ

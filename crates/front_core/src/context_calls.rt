@@ -1,12 +1,12 @@
 // The calls that create, destroy and take contexts: each context has an index for its batches.
 ghost use Rattle.std.specs.Prelude.{◌≡◌, ℕ, ◌*◌, ◌==◌, ◌<◌, ◌≤◌, true, false, [], IfOk, IfSome, IfNone, OnOk, OnErr};
 ghost use Rattle.vk_device.specs.Faults.{HasCause};
-ghost use Rattle.tables.specs.Table.{any_value, has, only};
+ghost use Rattle.tables.specs.Table.{any_value, has, only, with_entry, IsOrdered};
 ghost use Rattle.back_core.specs.Needs.{IsOfGroup};
 ghost use Rattle.front_model.specs.Face.{outline_at, view};
 ghost use Rattle.front_model.specs.Stands.{Holds, Owns, Moved, IsQuiet, no_hands};
 ghost use Rattle.front_moves.specs.Core.{face};
-ghost use Rattle.front_core.specs.Share.{MayCall, IsCarriedOut, HaveIndexes, replaced_index};
+ghost use Rattle.front_core.specs.Share.{MayCall, IsCarriedOut, HaveIndexes, IsLowestFree, replaced_index};
 
 use crate::share::Share;
 use crate::state_calls_come_to::state_calls_come_to;
@@ -19,7 +19,8 @@ use vk_types::{Reason, SerialIndex, Stop};
 
 /// Whether a context has an index.
 fn has_index(serials: &Table<SerialIndex>, index: u8) -> bool
-    ensures { result ≡ any_value (λ i. i == index) serials.now }
+    ensures value { result ≡ any_value (λ i. i == index) serials.now }
+    ensures ordered { IsOrdered serials.now }
 {
     serials.iter().any(|e| e.1.get() == index)
 }
@@ -31,6 +32,7 @@ fn free_index(serials: &Table<SerialIndex>, group: u8) -> Option<SerialIndex>
     ensures free { IfSome result (λ i. any_value (λ j. j == i) serials.now ≡ false) }
     ensures lowest { IfSome result (λ i. (k : ℕ) → 8 * group ≤ k → k < i → any_value (λ j. j == k) serials.now ≡ true) }
     ensures none { IfNone result ((k : ℕ) → IsOfGroup group k → any_value (λ j. j == k) serials.now ≡ true) }
+    ensures ordered { IfNone result (IsOrdered serials.now) }
 {
     for place in 0..8u8 {
         let index = 8 * group + place;
@@ -90,6 +92,7 @@ impl Share {
         requires may { MayCall (face self.old.core) (L.state link.old) self.old.state thread (Call.CreateContext number) }
         ensures done { IfOk result (λ reply. IsCarriedOut (face self.old.core) (face self.new.core) (L.state link.old) (L.state link.new) self.old.state self.new.state thread (Call.CreateContext number) reply) }
         ensures indexes { OnOk result (HaveIndexes self.new.state.contexts self.new.serials (face self.new.core).group) }
+        ensures lowest { OnOk result ((i : ℕ) × (self.new.serials ≡ with_entry number i self.old.serials) × IsLowestFree (face self.old.core).group self.old.serials i) }
         ensures group { (face self.new.core).group ≡ (face self.old.core).group }
         ensures err { OnErr result (Owns (face self.new.core).objects (L.state link.new)) }
         ensures cause { HasCause (L.faults link.old) (L.faults link.new) result }
@@ -97,7 +100,7 @@ impl Share {
     {
         state_calls_come_to();
         let Some(index) = free_index(&self.serials, self.core.group()) else {
-            return Err(Stop::Memory);
+            unreachable!();
         };
         match self.serials.insert(u32::from(number), index) {
             Ok(()) => match self.state_call(link, thread, &Call::CreateContext { number }) {

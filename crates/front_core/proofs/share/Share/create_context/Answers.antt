@@ -1,14 +1,27 @@
-use Rattle.std.proofs.Common.{◌∙◌, ap, subst}
-use Rattle.tables.specs.Table.{with_entry}
+use Rattle.std.proofs.Common.{◌≡◌, ℕ, ◌==◌, true, ◌∙◌, ap, subst}
+use Rattle.tables.specs.Table.{any_value, with_entry}
 use Rattle.gl_model.specs.declared.state.GroupState.{GroupState}
 use Rattle.gl_model.specs.GroupState.{new_context}
 use Rattle.back_core.specs.Needs.{IsOfGroup}
 use Rattle.front_moves.specs.Core.{face}
+use Rattle.front_core.specs.Share.{IsLowestFree}
+use Rattle.front_core.proofs.FreeIndexes.{all_taken, few_contexts}
 use Rattle.front_core.proofs.ContextIndexes.{created_indexes, indexes_of_equal}
 use Rattle.front_core.proofs.share.Share.create_context.Goals as goal
 
-pub returns-in_default-clause-err : goal.returns-in_default-clause-err
-returns-in_default-clause-err g c = c.state_calls_come_to.ensures.owns (face c.args.self.now.core) (g.L.BackLink.state c.args.link.now) c.requires.may.backs.holds
+pub unreachable-requires : goal.unreachable-requires
+unreachable-requires g c =
+    let before : GroupState = c.args.self.now.state in
+    few_contexts before c.args.thread c.args.number c.requires.may.accepted
+    (all_taken before.contexts c.args.self.now.serials (face c.args.self.now.core).group c.requires.indexes c.in_default.ensures.ordered
+    (subst (λ n. (k : ℕ) → IsOfGroup n k → any_value (λ j. j == k) c.args.self.now.serials ≡ true) c.group.ensures.value c.in_default.ensures.none))
+
+pub returns-in-Ok-state_call-clause-lowest : goal.returns-in-Ok-state_call-clause-lowest
+returns-in-Ok-state_call-clause-lowest g c = (
+  c.in-Some.index,
+  c.state_call.ensures.serials ∙ c.in-Ok.ensures.ok ∙ ap (λ n. with_entry n c.in-Some.index c.args.self.now.serials) c.from.ensures,
+  subst (λ n. IsLowestFree n c.args.self.now.serials c.in-Some.index) c.group.ensures.value (record { own = c.in-Some.ensures.own; free = c.in-Some.ensures.free; lowest = c.in-Some.ensures.lowest }),
+)
 
 pub returns-in-Ok-state_call-clause-indexes : goal.returns-in-Ok-state_call-clause-indexes
 returns-in-Ok-state_call-clause-indexes g c =

@@ -1,12 +1,13 @@
-use Rattle.std.proofs.Common.{◌≡◌, sym, ◌∙◌, ap, subst, refl}
+use Rattle.std.proofs.Common.{◌≡◌, sym, ◌∙◌, ap, subst, refl, []}
+use Rattle.std.specs.Prelude.{IfSome}
 use Rattle.gl_calls.specs.declared.call.Call.TheVariants as call
 use Rattle.tables.specs.Table.{has, only}
 use Rattle.gl_model.specs.declared.state.GroupState.{GroupState}
 use Rattle.gl_model.specs.GroupEffect.{taken_by, let_go}
 use Rattle.front_moves.specs.Core.{face}
-use Rattle.front_core.specs.Share.{MayCall, IsCarriedOut, HaveIndexes}
+use Rattle.front_core.specs.Share.{MayCall, IsCarriedOut, HaveIndexes, replaced_index}
 use Rattle.front_core.proofs.ContextIndexes.{left_indexes, fewer-taken, indexes_of_equal}
-use Rattle.front_core.proofs.Switching.{may_still, carried_from}
+use Rattle.front_core.proofs.Switching.{may_still, carried_from, flushed_still}
 use Rattle.front_core.proofs.share.Share.make_current.Goals as goal
 
 pub state_call-requires-clause-may : goal.state_call-requires-clause-may
@@ -35,3 +36,8 @@ returns-in-Ok-state_call-clause-indexes g c =
     refl (c.drop_indexes.ensures ∙ ap (λ (x : GroupState). only (λ n. has n x.contexts) c.state_call.new.self.serials) c.group.ensures) refl
     (left_indexes before.contexts after.contexts c.state_call.new.self.serials c.state_call.new.self.core.indexes.group kept
     (λ n there. fewer-taken c.args.thread c.args.number n before.contexts (sym (ap (has n) contexts) ∙ there)))
+
+pub returns-in-Ok-state_call-clause-flushed : goal.returns-in-Ok-state_call-clause-flushed
+returns-in-Ok-state_call-clause-flushed g c =
+    flushed_still (replaced_index c.args.self.now.state c.args.self.now.serials c.args.thread c.args.number) (face c.switch.new.self.core).pending (face c.state_call.new.self.core).pending c.state_call.ensures.pending
+    (subst (λ n. IfSome (replaced_index c.args.self.now.state c.args.self.now.serials c.args.thread n) (λ i. (face c.switch.new.self.core).pending i ≡ [])) c.from.ensures c.in-Ok.ensures.flushed)

@@ -5,8 +5,10 @@ use Rattle.std.proofs.Math.Facts.{to_z-of_z}
 use Rattle.std.specs.Prelude.{unsigned_abs}
 use Rattle.std.proofs.lemmas.List.{length-replicate}
 use Rattle.gl_calls.specs.declared.call.Call.TheVariants as call
+use Rattle.back_core.specs.Link.{Link}
 use Rattle.front_moves.specs.Core.{face}
-use Rattle.front_core.proofs.BufferCalls.{InMap, Reach, in_map, has_reach, moved_none, agrees_none, agrees_length, length-cells, written_over}
+use Rattle.front_core.specs.Share.{Gains}
+use Rattle.front_core.proofs.BufferCalls.{gained, InMap, Reach, in_map, has_reach, moved_none, agrees_none, agrees_length, length-cells, written_over}
 use Rattle.front_core.proofs.share.Share.map_read.Goals as goal
 
 pub unreachable-requires : goal.unreachable-requires
@@ -68,3 +70,10 @@ returns-in-Ok-read-clause-done g c =
     c.map_calls_come_to.ensures.read (face c.args.self.now.core) (g.L.BackLink.state c.args.link.now) (g.L.BackLink.state c.read.new.link) c.args.self.now.state c.args.thread c.in-Some.buffer c.in-Some.place c.args.target c.args.offset c.args.length _ c.requires c.in-Some.ensures.some
     c.in-Ok-read.ensures.moved
     (subst (λ xs. Agrees xs (cells (unsigned_abs c.args.length) (λ k. view (face c.args.self.now.core) (g.L.BackLink.state c.args.link.now) (Buffer c.in-Some.buffer) (c.in-Some.place + unsigned_abs c.args.offset + k)))) (sym (written_over c.in-Ok.bytes c.read.new.out all)) read)
+
+pub returns-in-Ok-read-clause-origin : goal.returns-in-Ok-read-clause-origin
+returns-in-Ok-read-clause-origin g c =
+    let had = c.in-Ok-read.ensures.fetched in
+    let all : length c.read.new.out ≡ length c.in-Ok.bytes = agrees_length c.read.new.out _ c.in-Ok-read.ensures.bytes ∙ length-cells _ _ ∙ ap length c.as_mut_slice.ensures.value in
+    subst (λ xs. Gains (g.L.BackLink.state c.args.link.now).mine (g.L.BackLink.state c.read.new.link).mine xs) (sym (written_over c.in-Ok.bytes c.read.new.out all))
+    (gained (g.L.BackLink.state c.args.link.now).mine (g.L.BackLink.state c.read.new.link).mine had.0 _ c.read.new.out (ap (λ (s : Link). s.mine) had.1))
