@@ -2,6 +2,7 @@
 #![tactic(auto)]
 
 mod answering;
+mod answers_come_to;
 mod calls_come_to;
 mod context_calls;
 mod copy_calls;

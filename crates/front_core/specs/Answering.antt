@@ -1,0 +1,21 @@
+-- Which calls of a front go where.
+use Rattle.std.specs.Prelude.{Bool, true, false}
+use Rattle.gl_calls.specs.declared.call.Call.{Call}
+use Rattle.gl_calls.specs.declared.call.Call.TheVariants as call
+
+-- the calls that create, destroy or take a context
+abbrev pub changes_contexts : Call → Bool
+changes_contexts (call.CreateContext number) = true
+changes_contexts (call.DestroyContext number) = true
+changes_contexts (call.MakeCurrent number) = true
+changes_contexts _ = false
+
+-- the calls that fill, copy, map or reach into buffers
+abbrev pub reaches_buffers : Call → Bool
+reaches_buffers (call.BufferData target size usage payload) = true
+reaches_buffers (call.BufferSubData target offset payload) = true
+reaches_buffers (call.CopyBufferSubData from to read write size) = true
+reaches_buffers (call.MapBufferRange target offset len access) = true
+reaches_buffers (call.MapRead target offset len) = true
+reaches_buffers (call.MapWrite target offset payload) = true
+reaches_buffers _ = false
