@@ -107,7 +107,7 @@ abbrev pub Finds : GroupState → ℕ → BufferTarget → ℕ → ℕ → Type 
 Finds group thread target b place = (context : Context) → current_context group thread ≡ Some context →
     (facts : BufferFacts) × (mapped : Mapped) × IsBound group context target b facts × (facts.map ≡ Some mapped) × (mapped.at ≡ place) × (facts.size ≤ 18446744073709551615)
 
-bound_has : (group : GroupState) (context : Context) (target : BufferTarget) (b : ℕ) (facts : BufferFacts) (P : ℕ → BufferFacts → Type 0) → HasBound group context target P → IsBound group context target b facts → P b facts
+pub bound_has : (group : GroupState) (context : Context) (target : BufferTarget) (b : ℕ) (facts : BufferFacts) (P : ℕ → BufferFacts → Type 0) → HasBound group context target P → IsBound group context target b facts → P b facts
 bound_has group context target b facts P has bound =
     let one : Some has.b ≡ Some b = sym has.is_bound.bound ∙ bound.bound in
     let number : has.b ≡ b = cc in

@@ -3,6 +3,8 @@ pub mod BufferCalls
 pub mod ContextIndexes
 pub mod FreeIndexes
 pub mod ContextsStay
+pub mod CurrentIndexes
+pub mod DataCalls
 pub mod GoneBuffers
 pub mod StateCalls
 pub mod Switching

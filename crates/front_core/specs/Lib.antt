@@ -1,3 +1,4 @@
 pub mod Answering
+pub mod Filled
 pub mod Front
 pub mod Share

@@ -7,6 +7,7 @@ mod calls_come_to;
 mod context_calls;
 mod copy_calls;
 mod data_calls;
+mod data_calls_come_to;
 mod front;
 mod map_calls;
 mod share;
