@@ -5,6 +5,7 @@ pub mod FreeIndexes
 pub mod ContextsStay
 pub mod CurrentIndexes
 pub mod DataCalls
+pub mod CopyCalls
 pub mod GoneBuffers
 pub mod StateCalls
 pub mod Switching

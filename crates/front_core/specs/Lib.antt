@@ -1,4 +1,5 @@
 pub mod Answering
 pub mod Filled
+pub mod Copies
 pub mod Front
 pub mod Share

@@ -5,9 +5,11 @@ ghost use Rattle.front_model.specs.Stands.{Owns};
 ghost use Rattle.front_moves.specs.Core.{face};
 ghost use Rattle.front_core.specs.Share.{MayCall, IsCarriedOut, HaveIndexes};
 
+use crate::copy_calls_come_to::copy_calls_come_to;
 use crate::share::Share;
 use back_core::BackLink;
 use gl_calls::{AccessWord, BufferTarget, Call, Reply};
+use gl_state::map_buffer_range;
 use vk_types::Stop;
 
 impl Share {
@@ -22,7 +24,6 @@ impl Share {
         write: i64,
         size: i64,
     ) -> Result<Reply, Stop>
-        requires never { ⊥ }
         requires indexes { HaveIndexes self.old.state.contexts self.old.serials (face self.old.core).group }
         requires may { MayCall (face self.old.core) (L.state link.old) self.old.state thread (Call.CopyBufferSubData from to read write size) }
         ensures done { IfOk result (λ reply. IsCarriedOut (face self.old.core) (face self.new.core) (L.state link.old) (L.state link.new) self.old.state self.new.state thread (Call.CopyBufferSubData from to read write size) reply) }
@@ -32,7 +33,31 @@ impl Share {
         ensures cause { HasCause (L.faults link.old) (L.faults link.new) result }
         ensures outside { L.outside link.new ≡ L.outside link.old }
     {
-        unreachable!()
+        copy_calls_come_to();
+        let Some((source, _)) = self.bound(thread, from) else {
+            unreachable!();
+        };
+        let Some((target, _)) = self.bound(thread, to) else {
+            unreachable!();
+        };
+        let Some(index) = self.index(thread) else {
+            unreachable!();
+        };
+        if size == 0 {
+            return Ok(Reply::Done);
+        }
+        match self.core.copy(
+            link,
+            index,
+            source,
+            read.unsigned_abs(),
+            target,
+            write.unsigned_abs(),
+            size.unsigned_abs(),
+        ) {
+            Ok(()) => Ok(Reply::Done),
+            Err(stop) => Err(stop),
+        }
     }
 
     /// Maps a range of the bound buffer, once the device is done with it (OpenGL ES 3.0.6, Mapping and Unmapping Buffer Data).
@@ -45,7 +70,6 @@ impl Share {
         length: i64,
         access: AccessWord,
     ) -> Result<Reply, Stop>
-        requires never { ⊥ }
         requires indexes { HaveIndexes self.old.state.contexts self.old.serials (face self.old.core).group }
         requires may { MayCall (face self.old.core) (L.state link.old) self.old.state thread (Call.MapBufferRange target offset length access) }
         ensures done { IfOk result (λ reply. IsCarriedOut (face self.old.core) (face self.new.core) (L.state link.old) (L.state link.new) self.old.state self.new.state thread (Call.MapBufferRange target offset length access) reply) }
@@ -55,6 +79,19 @@ impl Share {
         ensures cause { HasCause (L.faults link.old) (L.faults link.new) result }
         ensures outside { L.outside link.new ≡ L.outside link.old }
     {
-        unreachable!()
+        copy_calls_come_to();
+        let Some((buffer, _)) = self.bound(thread, target) else {
+            unreachable!();
+        };
+        let Some(index) = self.index(thread) else {
+            unreachable!();
+        };
+        match self.core.settle(link, index, buffer) {
+            Ok(()) => {
+                map_buffer_range(&mut self.state, thread, target, offset, length, access);
+                Ok(Reply::Done)
+            }
+            Err(stop) => Err(stop),
+        }
     }
 }

@@ -6,6 +6,7 @@ mod answers_come_to;
 mod calls_come_to;
 mod context_calls;
 mod copy_calls;
+mod copy_calls_come_to;
 mod data_calls;
 mod data_calls_come_to;
 mod front;
