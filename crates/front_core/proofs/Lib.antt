@@ -7,5 +7,8 @@ pub mod CurrentIndexes
 pub mod DataCalls
 pub mod CopyCalls
 pub mod GoneBuffers
+pub mod Histories
+pub mod NewFronts
 pub mod StateCalls
 pub mod Switching
+pub mod ThreadsStay

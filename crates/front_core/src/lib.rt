@@ -10,6 +10,7 @@ mod copy_calls_come_to;
 mod data_calls;
 mod data_calls_come_to;
 mod front;
+mod histories_come_to;
 mod map_calls;
 mod share;
 mod state_calls;
