@@ -4,5 +4,5 @@ use Rattle.front_moves.specs.Core.{face}
 use Rattle.front_core.specs.Front.{FrontModel}
 use Rattle.front_core.proofs.front.Front.abandon.Goals as goal
 
-pub abandon-requires-clause-owns : goal.abandon-requires-clause-owns
-abandon-requires-clause-owns g c = subst (λ (f : FrontModel). Owns (face f.core).objects (g.L.BackLink.state c.args.link.now)) (sym c.self.view_is) c.requires.owns
+pub abandon-requires : goal.abandon-requires
+abandon-requires g c = record { owns = subst (λ (f : FrontModel). Owns (face f.core).objects (g.L.BackLink.state c.args.link.now)) (sym c.self.view_is) c.requires.owns }

@@ -4,5 +4,5 @@ use Rattle.front_moves.specs.Core.{face}
 use Rattle.front_core.specs.Front.{FrontModel}
 use Rattle.front_core.proofs.front.Front.close.Goals as goal
 
-pub close-requires-clause-holds : goal.close-requires-clause-holds
-close-requires-clause-holds g c = subst (λ (f : FrontModel). Holds (face f.core) no_hands (g.L.BackLink.state c.args.link.now)) (sym c.self.view_is) c.requires.stands.stands.holds
+pub close-requires : goal.close-requires
+close-requires g c = record { holds = subst (λ (f : FrontModel). Holds (face f.core) no_hands (g.L.BackLink.state c.args.link.now)) (sym c.self.view_is) c.requires.stands.stands.holds }
