@@ -31,7 +31,7 @@ use Rattle.back_core.proofs.Going.{numbered, completed_below}
 use Rattle.back_core.proofs.Made.{none_or_some, put_here, IsMade}
 use Rattle.back_core.proofs.Adding.{made_still}
 use Rattle.back_core.proofs.Piles.{IsIn, in_front, in_back}
-use Rattle.back_core.proofs.Given.{Gives, given_before}
+use Rattle.back_core.proofs.Given.{Gives, given_before, given_distinct}
 use Rattle.back_core.proofs.Lives.{HasItem, item_uses}
 
 -- Destroyed objects
@@ -247,7 +247,7 @@ pub cleaned_clean : (h : List BackEvent) (g count : ℕ) (read : List ℕ) → I
     → count ≡ length (collect (garbage_of h) read).0 → (id : ℕ) → kind_of (journal_of (cleaned h read count)) id ≡ None
 cleaned_clean h g count read run none all are counted id =
     ap (λ j. kind_of j id) (journal_cleaned h read count counted)
-    ∙ ends_clean h g read run none all.given (λ i uses given. all_covered read uses (all.distinct i uses given) (λ index. low i uses given index (cases_order index 64))) id
+    ∙ ends_clean h g read run none all.given (λ i uses given. all_covered read uses (given_distinct h run g i uses given) (λ index. low i uses given index (cases_order index 64))) id
   where
     low : (i : ℕ) (uses : List QueueSerial) → (link_of h g).given i ≡ Some uses → (index : ℕ) → (index ≡ 64) ⊎ ((index < 64) ⊎ (64 < index)) → number_of uses index ≤ slice_index read index
     low i uses given index (inl is) = omega (arith, all.reached i uses given index, high_zero h run index (omega (arith, is)))
