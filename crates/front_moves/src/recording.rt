@@ -11,6 +11,7 @@ ghost use Rattle.front_model.specs.Stands.{Holds, Owns, Moved, IsQuiet, no_hands
 ghost use Rattle.front_model.specs.Steps.{full_barrier, fenced};
 ghost use Rattle.front_model.specs.Wanted.{with_copy};
 ghost use Rattle.front_moves.specs.Core.{face, in_hand, HasStore, IsParted, IsQuietBut, IsUntouched, IsRetired, EndsWithBarrier};
+ghost use Rattle.front_moves.specs.Uploads.{uploaded};
 
 use crate::group_core::Core;
 use crate::pending::Pending;
@@ -96,6 +97,7 @@ impl Core {
         ensures err { OnErr result (Owns (face self.new).objects (L.state link.new)) }
         ensures cause { HasCause (L.faults link.old) (L.faults link.new) result }
         ensures outside { L.outside link.new ≡ L.outside link.old }
+        ensures uploads { uploaded (L.state link.new).mine ≤ uploaded (L.state link.old).mine }
     {
         upload_comes_to();
         stopped_recording_comes_to();
@@ -215,6 +217,7 @@ impl Core {
         ensures err { OnErr result (Owns (face self.now).objects (L.state link.new)) }
         ensures cause { HasCause (L.faults link.old) (L.faults link.new) result }
         ensures outside { L.outside link.new ≡ L.outside link.old }
+        ensures uploads { uploaded (L.state link.new).mine ≤ uploaded (L.state link.old).mine }
     {
         waiting_comes_to();
         for place in 0..8u8 {
