@@ -9,6 +9,7 @@ ghost use Rattle.front_moves.specs.Uploads.{uploaded};
 
 use crate::closing_comes_to::{abandon_comes_to, close_comes_to};
 use crate::group_core::Core;
+use crate::uploads_come_to::uploads_come_to;
 use back_core::BackLink;
 use garbage::Garbage;
 use vk_types::{Reason, SerialIndex, Stop};
@@ -81,6 +82,7 @@ impl Core {
         ensures uploads { uploaded (L.state link.new).mine ≤ uploaded (L.state link.old).mine }
     {
         abandon_comes_to();
+        uploads_come_to();
         let Core {
             alloc: _,
             group: _,

@@ -14,6 +14,7 @@ ghost use Rattle.front_moves.specs.Uploads.{uploaded};
 use crate::buffers::Buffers;
 use crate::comes_to::{flush_comes_to, new_comes_to};
 use crate::pending::Pending;
+use crate::uploads_come_to::uploads_come_to;
 use back_core::BackLink;
 use queue_serials::Indexes;
 use std::alloc::Global;
@@ -111,6 +112,7 @@ impl Core {
         ensures uploads { uploaded (L.state link.new).mine ≤ uploaded (L.state link.old).mine }
     {
         flush_comes_to();
+        uploads_come_to();
         let place = self.place(index);
         if self.pending.len(place) == 0 {
             return Ok(());

@@ -14,6 +14,7 @@ ghost use Rattle.front_moves.specs.Uploads.{uploaded};
 use crate::group_core::Core;
 use crate::reading_comes_to::{host_comes_to, settle_comes_to};
 use crate::stores_come_to::end_comes_to;
+use crate::uploads_come_to::uploads_come_to;
 use back_core::BackLink;
 use vk_types::{QueueSerial, Reason, SerialIndex, Stop};
 
@@ -169,6 +170,7 @@ impl Core {
         ensures uploads { uploaded (L.state link.new).mine ≤ uploaded (L.state link.old).mine }
     {
         end_comes_to();
+        uploads_come_to();
         if let Some(store) = self.buffers.take(buffer) {
             link.give(store.into_garbage());
         }
@@ -230,6 +232,7 @@ impl Core {
         ensures uploads { uploaded (L.state link.new).mine ≤ uploaded (L.state link.old).mine }
     {
         host_comes_to();
+        uploads_come_to();
         match self.buffers.get(buffer) {
             Some(store) => link.read_host(store.id(), at, out),
             None => Ok(()),
@@ -257,6 +260,7 @@ impl Core {
         ensures uploads { uploaded (L.state link.new).mine ≤ uploaded (L.state link.old).mine + length bytes.now }
     {
         host_comes_to();
+        uploads_come_to();
         match self.buffers.get(buffer) {
             Some(store) => {
                 // the size is a number of 64 bits, so the range does not go past the last place

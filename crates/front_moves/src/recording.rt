@@ -19,6 +19,7 @@ use crate::reading_comes_to::waiting_comes_to;
 use crate::recording_comes_to::{
     barrier_comes_to, copy_comes_to, stopped_recording_comes_to, upload_comes_to,
 };
+use crate::uploads_come_to::uploads_come_to;
 use back_core::BackLink;
 use garbage::Garbage;
 use vk_types::{Access, Barrier, HandleId, Node, Op, QueueSerial, SerialIndex, Stop};
@@ -101,6 +102,7 @@ impl Core {
     {
         upload_comes_to();
         stopped_recording_comes_to();
+        uploads_come_to();
         let place = self.place(serial.index);
         let src = staging.handle.id();
         let dst = self.id_of(buffer);
@@ -220,6 +222,7 @@ impl Core {
         ensures uploads { uploaded (L.state link.new).mine ≤ uploaded (L.state link.old).mine }
     {
         waiting_comes_to();
+        uploads_come_to();
         for place in 0..8u8 {
             let index = SerialIndex::new(8 * self.group + place);
             let number = self.last_use(index, buffer);

@@ -1,5 +1,5 @@
 // How stores are made and put into buffers.
-ghost use Rattle.std.specs.Prelude.{◌≡◌, ℕ, ◌==◌, ◌<◌, if◌then◌else◌, Some, None, length, OnOk, OnErr, IfOk};
+ghost use Rattle.std.specs.Prelude.{◌≡◌, ℕ, ◌+◌, ◌==◌, ◌<◌, ◌≤◌, if◌then◌else◌, Some, None, length, OnOk, OnErr, IfOk};
 ghost use Rattle.vk_device.specs.Faults.{HasCause};
 ghost use Rattle.resource_use.specs.Uses.{number_of};
 ghost use Rattle.front_model.specs.Face.{Buffer, put_object, outline_at, view, recorded};
@@ -9,6 +9,7 @@ ghost use Rattle.front_moves.specs.Uploads.{uploaded};
 
 use crate::group_core::Core;
 use crate::stores_come_to::{begin_comes_to, blank_comes_to, filled_comes_to};
+use crate::uploads_come_to::uploads_come_to;
 use back_core::BackLink;
 use buffer_helper::BufferHelper;
 use garbage::Garbage;
@@ -27,6 +28,7 @@ impl Core {
         ensures uploads { uploaded (L.state link.new).mine ≤ uploaded (L.state link.old).mine }
     {
         blank_comes_to();
+        uploads_come_to();
         link.create(Kind::Buffer { size })
     }
 
@@ -41,6 +43,7 @@ impl Core {
         ensures uploads { uploaded (L.state link.new).mine ≤ uploaded (L.state link.old).mine + length bytes.now }
     {
         filled_comes_to();
+        uploads_come_to();
         match self.blank(link, bytes.len() as u64) {
             Ok(handle) => match link.write_host(handle.id(), 0, bytes) {
                 Ok(()) => Ok(handle),
@@ -103,6 +106,7 @@ impl Core {
     {
         begin_comes_to();
         filled_comes_to();
+        uploads_come_to();
         match self
             .buffers
             .insert(buffer, BufferHelper::new(self.alloc, fresh, size))
