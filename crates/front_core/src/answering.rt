@@ -1,5 +1,5 @@
 // One call of a thread: it is refused, or carried out.
-ghost use Rattle.std.specs.Prelude.{◌≡◌, true, false, None, [], IfOk, IfSome, OnOk, OnErr};
+ghost use Rattle.std.specs.Prelude.{◌≡◌, ◌+◌, ◌≤◌, true, false, None, [], IfOk, IfSome, OnOk, OnErr};
 ghost use Rattle.vk_device.specs.Faults.{HasCause};
 ghost use Rattle.gl_model.specs.Refusal.{refusal};
 ghost use Rattle.front_model.specs.Stands.{Owns};

@@ -1,5 +1,5 @@
 // The front of a share group: its calls in turn, and their history.
-ghost use Rattle.std.specs.Prelude.{◌≡◌, ◌≤◌, ◌<◌, true, false, Contains, None, [], ◌∷◌, ◌++◌, IfOk, IfSome, OnOk, OnErr};
+ghost use Rattle.std.specs.Prelude.{◌≡◌, ◌+◌, ◌≤◌, ◌<◌, true, false, Contains, None, [], ◌∷◌, ◌++◌, IfOk, IfSome, OnOk, OnErr};
 ghost use Rattle.std.specs.Vec.{vec_len, vec_capacity};
 ghost use Rattle.vk_device.specs.Faults.{HasCause};
 ghost use Rattle.gl_model.specs.Refusal.{refusal};
