@@ -1,13 +1,12 @@
 -- Calls on buffers that leave the state without contents as it is.
-use Rattle.std.proofs.Common.{arith, ◌≡◌, ◌≢◌, ℕ, ℤ, ◌+◌, ◌<◌, ◌≤◌, ◌==◌, Bool, true, false, Option, Some, None, List, [], ◌∷◌, ◌++◌, suc, refl, sym, ◌∙◌, ap, subst}
-use Rattle.std.specs.Prelude.{unsigned_abs, length, take, drop}
+use Rattle.std.proofs.Common.{arith, ◌≡◌, ℕ, ◌+◌, ◌<◌, ◌≤◌, ◌==◌, false, Option, Some, None, List, [], ◌∷◌, ◌++◌, suc, refl, sym, ◌∙◌, ap, subst}
+use Rattle.std.specs.Prelude.{length, take, drop}
 use Rattle.std.proofs.Math.Seq.{take-append_seam}
 use Rattle.std.proofs.Math.Path.{fun_ext}
 use Rattle.std.proofs.lemmas.List.FromFn.{length-map-range_with_len}
 use Rattle.cells.specs.Contents.{in_range, cells, Agrees}
 use Rattle.std.specs.Option.{option_map, option_and_then}
 use Rattle.vk_types.specs.declared.handles.Kind.{Kind}
-use Rattle.vk_types.specs.declared.handles.Kind.TheVariants as kind
 use Rattle.gl_calls.specs.declared.call.Call.{Call}
 use Rattle.gl_calls.specs.declared.payload.Payload.{Payload}
 use Rattle.gl_calls.specs.declared.payload.Payload.TheVariants.{Literal, Ramp}
@@ -32,7 +31,7 @@ use Rattle.back_core.specs.Own.{Own, HostRead}
 use Rattle.back_core.specs.Link.{Link}
 use Rattle.front_model.specs.Face.{Object, Buffer, Face, Outline, outline, outline_at, put_object, view}
 use Rattle.front_model.specs.Stands.{Moved, IsQuiet, Holds, no_hands}
-use Rattle.front_model.specs.Wanted.{buffer_kind, kind_wanted, wanted, AgreeWith, IsMapped, IsAccepted, IsBound, HasBound, HasMapRange, with_bytes}
+use Rattle.front_model.specs.Wanted.{buffer_kind, wanted, AgreeWith, IsMapped, IsAccepted, IsBound, HasBound, HasMapRange, with_bytes}
 use Rattle.front_moves.proofs.BufferLaws.{put_object-same_value}
 use Rattle.front_moves.specs.Buffers.{stored_of}
 use Rattle.front_moves.specs.Core.{CoreParts, face, HasStore, outline_of_size}

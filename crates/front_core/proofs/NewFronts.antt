@@ -1,5 +1,5 @@
 -- A new front has nothing on the device, and what it has agrees with a group with nothing in it.
-use Rattle.std.proofs.Common.{◌≡◌, ℕ, false, true, Option, Some, None, List, [], refl, sym, ◌∙◌, ap, arith}
+use Rattle.std.proofs.Common.{◌≡◌, ℕ, false, Option, Some, None, List, [], refl, sym, ◌∙◌, ap, arith}
 use Rattle.std.specs.Option.{option_map}
 use Rattle.std.proofs.lemmas.Bool.{false≢true}
 use Rattle.gl_model.specs.declared.objects.BufferFacts.{BufferFacts}

@@ -1,5 +1,5 @@
 -- A share group's state and objects together, and what a call does to them.
-use Rattle.std.specs.Prelude.{◌≡◌, ◌≢◌, ℕ, ◌*◌, ◌<◌, ◌≤◌, ◌==◌, Bool, true, false, if◌then◌else◌, Option, Some, None, List, [], ◌∷◌, ◌++◌}
+use Rattle.std.specs.Prelude.{◌≡◌, ℕ, ◌*◌, ◌<◌, ◌≤◌, ◌==◌, Bool, true, false, if◌then◌else◌, Option, Some, None, List, [], ◌∷◌, ◌++◌}
 use Rattle.std.specs.Option.{option_map, option_and_then}
 use Rattle.gl_calls.specs.declared.call.Call.{Call}
 use Rattle.gl_calls.specs.declared.call.Call.TheVariants as call
@@ -25,7 +25,6 @@ use Rattle.back_core.specs.Needs.{IsOfGroup}
 use Rattle.front_model.specs.Face.{Object, Buffer, Face, outline_at, view}
 use Rattle.front_model.specs.Stands.{Holds, no_hands, IsQuiet}
 use Rattle.front_model.specs.Wanted.{kind_wanted, wanted, AgreeWith, IsMapped, HasFreeNumbers}
-use Rattle.front_moves.specs.Core.{CoreParts, face}
 
 -- The objects of a front are those of a state without contents: each has its store, and the host may use each mapped buffer.
 pub record Backs (f : Face) (s : Link) (group : GroupState) : Type 0 where

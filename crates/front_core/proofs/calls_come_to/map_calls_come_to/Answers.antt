@@ -1,16 +1,14 @@
-use Rattle.std.proofs.Common.{◌≡◌, ◌≢◌, ℕ, ℤ, ◌+◌, Bool, false, true, Option, Some, None, List, refl, sym, ◌∙◌, ap, subst}
+use Rattle.std.proofs.Common.{◌+◌, refl, sym, subst}
 use Rattle.std.specs.Prelude.{unsigned_abs}
 use Rattle.cells.specs.Contents.{cells, Agrees}
 use Rattle.gl_calls.specs.declared.call.Call.TheVariants as call
 use Rattle.gl_calls.specs.declared.reply.Reply.TheVariants as reply
 use Rattle.gl_calls.specs.Words.{payload_len, payload_bytes}
-use Rattle.gl_model.specs.declared.state.Context.{Context}
-use Rattle.gl_model.specs.declared.state.GroupState.{GroupState}
 use Rattle.gl_model.specs.Bindings.{current_context}
 use Rattle.gl_model.specs.Effect.{effect}
 use Rattle.front_model.specs.Face.{Buffer, put_object, view}
 use Rattle.front_model.specs.Stands.{no_hands, IsQuiet}
-use Rattle.front_model.specs.Wanted.{wanted, AgreeWith, IsBound, HasBound, HasMapRange, with_bytes}
+use Rattle.front_model.specs.Wanted.{wanted, AgreeWith, HasMapRange, with_bytes}
 use Rattle.front_core.proofs.BufferCalls.{context_of, accepted_of, bound_of, bound_back, carried_still, nothing_changes, done_answers}
 use Rattle.front_core.proofs.StateCalls.{none_either, nil_either}
 use Rattle.front_core.proofs.calls_come_to.map_calls_come_to.Goals as goal

@@ -1,4 +1,4 @@
-use Rattle.std.proofs.Common.{arith, rules, ◌≡◌, ℕ, ◌+◌, ◌<◌, refl, sym, ◌∙◌, ap, subst, w64, length, List, []}
+use Rattle.std.proofs.Common.{arith, rules, ◌≡◌, ◌+◌, ◌<◌, refl, sym, ◌∙◌, ap, subst, w64, length, []}
 use Rattle.cells.specs.Contents.{cells, Agrees}
 use Rattle.front_model.specs.Face.{Buffer, view}
 use Rattle.std.proofs.Math.Facts.{to_z-of_z}
