@@ -19,7 +19,13 @@ fn a_failing_source_leaves_no_output(rt: HostRuntime) -> Result<(), Fail> {
         let text = trace(alloc, ROWS[0].calls)?;
         let mut source = MemorySource::new(text, numbers(alloc, &[call])?);
         let mut sink = MemorySink::new(alloc, 4096, 4096, Vec::new(alloc))?;
-        let (status, _) = run_once(alloc, &words, &mut source, &mut sink, FakeDevice::first(alloc));
+        let (status, _) = run_once(
+            alloc,
+            &words,
+            &mut source,
+            &mut sink,
+            FakeDevice::first(alloc),
+        );
         assert!(rt; status == Status::ReadFault);
         assert!(rt; sink.bytes().is_empty());
     }
@@ -35,7 +41,13 @@ fn a_failing_sink_has_what_it_took(rt: HostRuntime) -> Result<(), Fail> {
         let text = trace(alloc, ROWS[0].calls)?;
         let mut source = MemorySource::new(text, Vec::new(alloc));
         let mut sink = MemorySink::new(alloc, 4096, 1, numbers(alloc, &[call])?)?;
-        let (status, _) = run_once(alloc, &words, &mut source, &mut sink, FakeDevice::first(alloc));
+        let (status, _) = run_once(
+            alloc,
+            &words,
+            &mut source,
+            &mut sink,
+            FakeDevice::first(alloc),
+        );
         assert!(rt; status == Status::WriteFault);
         assert!(rt; sink.bytes().len() as u64 + 1 == call);
         assert!(rt; replies.starts_with(sink.bytes()));
@@ -44,7 +56,7 @@ fn a_failing_sink_has_what_it_took(rt: HostRuntime) -> Result<(), Fail> {
 }
 
 // The text without its last line.
-fn without_end(text: &[u8], end: &str) -> &[u8] {
+fn without_end<'a>(text: &'a [u8], end: &str) -> &'a [u8] {
     match text.strip_suffix(end.as_bytes()) {
         Some(front) => front,
         None => text,
@@ -63,14 +75,30 @@ fn a_lost_device_leaves_the_replies_so_far(rt: HostRuntime) -> Result<(), Fail> 
             let device = FuseDevice::new(FakeDevice::first(alloc), passes);
             let (status, sink, _) = run_on(alloc, text, device)?;
             if status == Status::Ok {
-                assert!(rt; sink.bytes() == replies.as_slice(), "{} after {passes}", row.shows);
-                assert!(rt; longest == without_end(&replies, "end\n").len(), "{}", row.shows);
+                assert!(rt;
+                    sink.bytes() == replies.as_slice(),
+                    "{} after {passes}",
+                    row.shows
+                );
+                assert!(rt;
+                    longest == without_end(&replies, "end\n").len(),
+                    "{}",
+                    row.shows
+                );
                 is_whole = true;
                 break;
             }
             let front = without_end(sink.bytes(), "lost\n");
-            assert!(rt; status == Status::DeviceLost, "{} after {passes}", row.shows);
-            assert!(rt; front.len() < sink.bytes().len(), "{} after {passes}", row.shows);
+            assert!(rt;
+                status == Status::DeviceLost,
+                "{} after {passes}",
+                row.shows
+            );
+            assert!(rt;
+                front.len() < sink.bytes().len(),
+                "{} after {passes}",
+                row.shows
+            );
             assert!(rt; replies.starts_with(front), "{} after {passes}", row.shows);
             assert!(rt; longest <= front.len(), "{} after {passes}", row.shows);
             longest = front.len();

@@ -45,7 +45,7 @@ pub(crate) fn words(alloc: Global, list: &[&str]) -> Result<Vec<String>, AllocEr
 }
 
 /// Runs a text on a device, with room for all replies, and gives the status, what was written, and the device.
-pub(crate) fn run_on<D: Device>(
+pub(crate) fn run_on<D: Device + Drop>(
     alloc: Global,
     text: Vec<u8>,
     device: D,

@@ -26,8 +26,16 @@ fn a_text_without_threads_has_no_replies(rt: HostRuntime) -> Result<(), Fail> {
 fn a_text_that_is_cut_is_refused(rt: HostRuntime) -> Result<(), Fail> {
     let alloc = rt.alloc();
     let cases = [
-        ("0 bind copy_read 1\n0 bdata copy_read 4 static_draw 01020", 7, 5),
-        ("0 bind copy_read 1\n0 bdata copy_read 4 static_draw 010203", 7, 9),
+        (
+            "0 bind copy_read 1\n0 bdata copy_read 4 static_draw 01020",
+            7,
+            5,
+        ),
+        (
+            "0 bind copy_read 1\n0 bdata copy_read 4 static_draw 010203",
+            7,
+            9,
+        ),
         (
             "0 bind copy_read 1\n0 bdata copy_read 4 static_draw 01020304\n0 bmap copy_read 0 4 r\n0 mread copy_read 0 4\n",
             10,
@@ -91,7 +99,13 @@ fn other_words_get_the_usage(rt: HostRuntime) -> Result<(), Fail> {
         let words = words(alloc, list)?;
         let mut source = MemorySource::new(trace(alloc, "")?, Vec::new(alloc));
         let mut sink = MemorySink::new(alloc, 4096, 4096, Vec::new(alloc))?;
-        let (status, _) = run_once(alloc, &words, &mut source, &mut sink, FakeDevice::first(alloc));
+        let (status, _) = run_once(
+            alloc,
+            &words,
+            &mut source,
+            &mut sink,
+            FakeDevice::first(alloc),
+        );
         assert!(rt; status == Status::Usage);
         assert!(rt; sink.bytes() == usage.as_bytes());
     }

@@ -28,7 +28,11 @@ fn the_first_ready_node_goes_first(rt: HostRuntime) -> Result<(), Fail> {
     for row in &ROWS {
         let replies = joined(alloc, OPENED, row.replies, "end\n")?;
         let text = trace(alloc, row.calls)?;
-        assert!(rt; answers(alloc, text, &replies, FakeDevice::first(alloc))?, "{}", row.shows);
+        assert!(rt;
+            answers(alloc, text, &replies, FakeDevice::first(alloc))?,
+            "{}",
+            row.shows
+        );
     }
     Ok(())
 }
@@ -39,7 +43,11 @@ fn the_last_ready_node_goes_first(rt: HostRuntime) -> Result<(), Fail> {
     for row in &ROWS {
         let replies = joined(alloc, OPENED, row.replies, "end\n")?;
         let text = trace(alloc, row.calls)?;
-        assert!(rt; answers(alloc, text, &replies, FakeDevice::last(alloc))?, "{}", row.shows);
+        assert!(rt;
+            answers(alloc, text, &replies, FakeDevice::last(alloc))?,
+            "{}",
+            row.shows
+        );
     }
     Ok(())
 }
@@ -51,7 +59,11 @@ fn a_drawn_ready_node_goes_first(rt: HostRuntime) -> Result<(), Fail> {
         for seed in 0..10u64 {
             let replies = joined(alloc, OPENED, row.replies, "end\n")?;
             let text = trace(alloc, row.calls)?;
-            assert!(rt; answers(alloc, text, &replies, SoftDevice::seeded(alloc, seed))?, "{} at {seed}", row.shows);
+            assert!(rt;
+                answers(alloc, text, &replies, SoftDevice::seeded(alloc, seed))?,
+                "{} at {seed}",
+                row.shows
+            );
         }
     }
     Ok(())
@@ -64,7 +76,9 @@ fn long_trace(alloc: Global) -> Result<(String, String), AllocError> {
     let mut line = 6u32;
     for turn in 0..1_250u32 {
         let digit = turn % 10;
-        let more = format!(in alloc; "0 bind array 1\n0 bdata array 4 static_draw 00000000\n0 bsub array 1 0{digit}0a\n0 bind copy_write 2\n0 bdata copy_write 4 static_draw null\n0 bcopy array copy_write 0 0 4\n0 bmap copy_write 0 4 r\n0 mread copy_write 0 4\n")?;
+        let more = format!(in alloc;
+            "0 bind array 1\n0 bdata array 4 static_draw 00000000\n0 bsub array 1 0{digit}0a\n0 bind copy_write 2\n0 bdata copy_write 4 static_draw null\n0 bcopy array copy_write 0 0 4\n0 bmap copy_write 0 4 r\n0 mread copy_write 0 4\n"
+        )?;
         calls.push_str(&more)?;
         for _ in 0..7u32 {
             let more = format!(in alloc; "0 {line} ok\n")?;
