@@ -62,4 +62,4 @@ reached_all h g nothing idle id uses is index = by_case (cases_lt (number_of use
 pub all_given : (h s : List BackEvent) (g : ℕ) → HasGoneOn h s → IsIdle s → LeavesNothing (link_of h g) → IsAllGiven s g
 all_given h s g gone idle nothing =
     let still : LeavesNothing (link_of s g) = nothing_still h s g gone nothing in
-    record { given = still.none_lost; distinct = ?distinct; reached = reached_all s g still idle }
+    record { given = still.none_lost; reached = reached_all s g still idle }
