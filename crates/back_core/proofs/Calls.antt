@@ -19,9 +19,9 @@ use Rattle.submit_queue.specs.Kept.{Keeps}
 use Rattle.back_core.specs.declared.back_event.BackEvent.{BackEvent}
 use Rattle.back_core.specs.declared.back_event.BackEvent.TheVariants.{Created, Enqueued, Gave, Abandoned, Cleaned}
 use Rattle.back_core.specs.declared.ending.Ending.{Ending}
-use Rattle.back_core.specs.Needs.{MayEnqueue, MayGive}
+use Rattle.back_core.specs.Needs.{MayEnqueue}
 use Rattle.back_core.specs.History.{queue_event, queue_history, link_of}
-use Rattle.back_core.specs.Run.{garbage_of, garbage_after, logged_by, covered_in, MayHappen, WereRead, IsRun, work_left, IsProgress}
+use Rattle.back_core.specs.Run.{garbage_of, garbage_after, logged_by, covered_in, MayHappen, WereRead, IsGiven, IsRun, work_left, IsProgress}
 use Rattle.back_core.specs.Back.{Holds, ending_of, ending_after, holdings_of, holdings_after}
 use Rattle.back_core.proofs.Room.{held_in, length-without}
 use Rattle.back_core.proofs.Holding.{GoesOn, holds_then, quiet_kept, owed_created, owed_same, owed_enqueued, owed_gave, owed_abandoned, owed_cleaned, owed_progress}
@@ -95,13 +95,13 @@ module _ (laws : GoesOn) (h : List BackEvent) (old new : List Logged) (bytes byt
         garbage_room = rw held holds.garbage_room;
       })
 
-  pub gave_room : (group : ℕ) (id : HandleId) (uses : List QueueSerial) → MayGive (link_of h group) id.0 uses → (1 ≤ promised) × (0 < g.room)
+  pub gave_room : (group : ℕ) (id : HandleId) (uses : List QueueSerial) → IsGiven (link_of h group) id.0 uses → (1 ≤ promised) × (0 < g.room)
   gave_room group id uses may =
       let less = owed_gave laws h group id uses may.held in
       let fewer = length-without (holdings_of h) group id.0 (held_in h group id.0 may.held) in
       (omega (arith, holds.room), omega (arith, holds.garbage_room))
 
-  pub holds_gave : (group : ℕ) (item : Garbage) (g' : GarbageAndRoom) → MayGive (link_of h group) item.handle.0 item.uses → new ≡ old → IsInOrder new bytes' → g'.items ≡ g.items ++ item ∷ [] → g.room ≤ g'.room + 1
+  pub holds_gave : (group : ℕ) (item : Garbage) (g' : GarbageAndRoom) → IsGiven (link_of h group) item.handle.0 item.uses → new ≡ old → IsInOrder new bytes' → g'.items ≡ g.items ++ item ∷ [] → g.room ≤ g'.room + 1
       → Holds (h ++ Gave group item.handle item.uses ∷ []) new bytes' q g' ending (promised - 1)
   holds_gave group item g' may same in_order items room =
       let less = owed_gave laws h group item.handle item.uses may.held in

@@ -1,6 +1,6 @@
 -- A run of one group that let go of all that it made by giving it leaves no object on the device.
-use Rattle.std.proofs.Common.{◌≡◌, ℕ, zero, suc, length, ◌==◌, ◌+◌, Bool, true, false, cond, List, [], ◌∷◌, ◌++◌, take, refl, sym, ap, ◌∙◌, subst, inl, inr, arith}
-use Rattle.std.specs.Prelude.{◌⊎◌, ◌<◌, slice_get, fold, ◌≤◌, ◌&&◌, nat_le, not, Some, None, Option, IsSome, slice_index}
+use Rattle.std.proofs.Common.{◌≡◌, ℕ, zero, suc, length, ◌==◌, Bool, true, false, cond, List, [], ◌∷◌, ◌++◌, refl, sym, ap, ◌∙◌, subst, inl, inr, arith}
+use Rattle.std.specs.Prelude.{◌⊎◌, ◌<◌, slice_get, fold, ◌≤◌, nat_le, not, Some, None, Option, IsSome, slice_index}
 use Rattle.std.specs.List.{filter}
 use Rattle.std.proofs.lemmas.Bool.{cases_eq, cases_Bool, cases_order, cond-true, cond-false, eq-eqb, ne_eqb, eqb-true, false≢true, and_from, le-leb}
 use Rattle.std.proofs.lemmas.List.{append-nil, append_assoc, take_all, nil_from_length}
@@ -20,18 +20,18 @@ use Rattle.vk_device.proofs.Running.{kind_after}
 use Rattle.submit_queue.specs.Histories as queue
 use Rattle.back_core.specs.declared.back_event.BackEvent.{BackEvent}
 use Rattle.back_core.specs.declared.back_event.BackEvent.TheVariants.{Created, Wrote, Enqueued, Submitted, Ran, Retired, Fetched, Gave, Abandoned, Cleaned, Closing, Stopped}
-use Rattle.back_core.specs.Link.{Link, put, created}
-use Rattle.back_core.specs.History.{queue_history, completed, own_part, link_after, link_of, is_outside, outside_of}
-use Rattle.back_core.specs.Run.{garbage_of, garbage_after, covered_in, submission, destroys, logged_by, journal_of, MayHappen, IsRun}
+use Rattle.back_core.specs.Link.{Link, created}
+use Rattle.back_core.specs.History.{queue_history, completed, own_part, link_of, is_outside, outside_of}
+use Rattle.back_core.specs.Run.{garbage_of, garbage_after, covered_in, submission, destroys, logged_by, journal_of, IsRun}
 use Rattle.back_core.specs.Steps.{AreCompleted, IsAllGiven, cleaned}
 use Rattle.back_core.proofs.Sees.{part_then, if_own_is, group_of}
 use Rattle.back_core.proofs.Runs.{of_each_run, journal_nil, journal_then, garbage_then}
 use Rattle.back_core.proofs.Parts.{pushed}
 use Rattle.back_core.proofs.Going.{numbered, completed_below}
-use Rattle.back_core.proofs.Made.{none_or_some, put_here, IsMade}
+use Rattle.back_core.proofs.Made.{put_here}
 use Rattle.back_core.proofs.Adding.{made_still}
 use Rattle.back_core.proofs.Piles.{IsIn, in_front, in_back}
-use Rattle.back_core.proofs.Given.{Gives, given_before}
+use Rattle.back_core.proofs.Given.{Gives, given_before, given_distinct}
 use Rattle.back_core.proofs.Lives.{HasItem, item_uses}
 
 -- Destroyed objects
@@ -247,7 +247,7 @@ pub cleaned_clean : (h : List BackEvent) (g count : ℕ) (read : List ℕ) → I
     → count ≡ length (collect (garbage_of h) read).0 → (id : ℕ) → kind_of (journal_of (cleaned h read count)) id ≡ None
 cleaned_clean h g count read run none all are counted id =
     ap (λ j. kind_of j id) (journal_cleaned h read count counted)
-    ∙ ends_clean h g read run none all.given (λ i uses given. all_covered read uses (all.distinct i uses given) (λ index. low i uses given index (cases_order index 64))) id
+    ∙ ends_clean h g read run none all.given (λ i uses given. all_covered read uses (given_distinct h run g i uses given) (λ index. low i uses given index (cases_order index 64))) id
   where
     low : (i : ℕ) (uses : List QueueSerial) → (link_of h g).given i ≡ Some uses → (index : ℕ) → (index ≡ 64) ⊎ ((index < 64) ⊎ (64 < index)) → number_of uses index ≤ slice_index read index
     low i uses given index (inl is) = omega (arith, all.reached i uses given index, high_zero h run index (omega (arith, is)))

@@ -5,7 +5,7 @@ use Rattle.std.proofs.lemmas.Bool.{cases_eq}
 use Rattle.std.proofs.lemmas.Option.{same_Some, none-some}
 use Rattle.vk_types.specs.declared.batches.Batch.{Batch}
 use Rattle.vk_types.specs.declared.batches.QueueSerial.{QueueSerial}
-use Rattle.resource_use.specs.Uses.{number_of}
+use Rattle.resource_use.specs.Uses.{number_of, AreDistinct}
 use Rattle.garbage.specs.declared.entry.Garbage.{Garbage}
 use Rattle.vk_device.specs.Journal.{creates}
 use Rattle.back_core.specs.declared.back_event.BackEvent.{BackEvent}
@@ -168,6 +168,29 @@ garbage_given = of_each_run (λ h. IsGarbage h (garbage_of h)) (subst (IsGarbage
     step h (Stopped stop) run may are = same h (Stopped stop) run may refl are
 
 -- Uses
+
+gives_distinct : (h : List BackEvent) (e : BackEvent) → MayHappen h e → (g i : ℕ) (uses : List QueueSerial) → Gives e g i uses → AreDistinct uses
+gives_distinct h (Created group id kind) may g i uses gives = absurd gives
+gives_distinct h (Wrote group id at bytes) may g i uses gives = absurd gives
+gives_distinct h (Enqueued b) may g i uses gives = absurd gives
+gives_distinct h Submitted may g i uses gives = absurd gives
+gives_distinct h (Ran batch node) may g i uses gives = absurd gives
+gives_distinct h (Retired serial) may g i uses gives = absurd gives
+gives_distinct h (Fetched group id at bytes) may g i uses gives = absurd gives
+gives_distinct h (Gave group id us) may g i uses gives = subst AreDistinct gives.2 may.distinct
+gives_distinct h (Abandoned group id) may g i uses gives = absurd gives
+gives_distinct h (Cleaned read destroyed) may g i uses gives = absurd gives
+gives_distinct h Closing may g i uses gives = absurd gives
+gives_distinct h (Stopped stop) may g i uses gives = absurd gives
+
+-- of the uses of an object that was given no two have one index
+pub given_distinct : (h : List BackEvent) → IsRun h → (g i : ℕ) (uses : List QueueSerial) → (own_part h g).given i ≡ Some uses → AreDistinct uses
+given_distinct = of_each_run (λ h. (g i : ℕ) (uses : List QueueSerial) → (own_part h g).given i ≡ Some uses → AreDistinct uses) (λ g i uses given. absurd (none-some uses given))
+    (λ h e run may so_far g i uses given. go h e may g i uses (so_far g i uses) (given_before h g i uses e given))
+  where
+    go : (h : List BackEvent) (e : BackEvent) → MayHappen h e → (g i : ℕ) (uses : List QueueSerial) → ((own_part h g).given i ≡ Some uses → AreDistinct uses) → ((own_part h g).given i ≡ Some uses) ⊎ Gives e g i uses → AreDistinct uses
+    go h e may g i uses so_far (inl old) = so_far old
+    go h e may g i uses so_far (inr new) = gives_distinct h e may g i uses new
 
 -- the uses of an object that was given name each batch that touches it
 abbrev AllNamed : List BackEvent → Type 0

@@ -1,5 +1,5 @@
 -- What the device did and what waits to be destroyed, as functions of what happened to the back, and what may happen next.
-use Rattle.std.specs.Prelude.{◌≡◌, ℕ, zero, suc, ◌+◌, ◌-◌, ◌<◌, ◌≤◌, ◌/◌, Bool, true, false, List, [], ◌∷◌, ◌++◌, length, map, take, fold, slice_get, slice_index, All, Option, Some, None, if◌then◌else◌}
+use Rattle.std.specs.Prelude.{◌≡◌, ℕ, zero, suc, ◌+◌, ◌-◌, ◌<◌, ◌≤◌, ◌/◌, ◌⊎◌, Bool, true, false, List, [], ◌∷◌, ◌++◌, length, map, take, fold, slice_get, slice_index, All, Option, Some, None, if◌then◌else◌}
 use Rattle.std.specs.List.{filter}
 use Rattle.vk_types.specs.declared.batches.Batch.{Batch}
 use Rattle.vk_types.specs.declared.batches.QueueSerial.{QueueSerial}
@@ -9,13 +9,15 @@ use Rattle.vk_device.specs.declared.logged.Logged.{Logged}
 use Rattle.vk_device.specs.declared.logged.Logged.TheVariants as logged
 use Rattle.vk_device.specs.Journal.{kind_of, creates}
 use Rattle.vk_device.specs.Order.{log_of, order_of, IsOfOneQueue, FindItsLayouts}
+use Rattle.resource_use.specs.Uses.{number_of, AreDistinct}
 use Rattle.garbage.specs.declared.entry.Garbage.{Garbage}
 use Rattle.garbage.specs.Collecting.{is_covered}
 use Rattle.submit_queue.specs.Histories as queue
 use Rattle.back_core.specs.declared.back_event.BackEvent.{BackEvent}
 use Rattle.back_core.specs.declared.back_event.BackEvent.TheVariants.{Created, Wrote, Enqueued, Submitted, Ran, Retired, Fetched, Gave, Abandoned, Cleaned, Closing, Stopped}
 use Rattle.back_core.specs.Own as own
-use Rattle.back_core.specs.Needs.{HostMay, MayEnqueue, MayGive}
+use Rattle.back_core.specs.Link.{Link}
+use Rattle.back_core.specs.Needs.{IsOfGroup, HostMay, MayEnqueue}
 use Rattle.back_core.specs.History.{queue_history, completed, link_of}
 
 -- Garbage
@@ -96,6 +98,12 @@ pub record MayRetire (history : List BackEvent) (serial : QueueSerial) : Type 0 
 abbrev pub WereRead : List BackEvent → List ℕ → Type 0
 WereRead history read = (index : ℕ) → index < 64 → slice_index read index ≤ completed history index
 
+-- An object may be given with these uses, as a call of its link asks, and no two of the uses have one index.
+pub record IsGiven (s : Link) (id : ℕ) (uses : List QueueSerial) : Type 0 where
+  pub held : s.held id ≡ true
+  pub exact : (index : ℕ) → (number_of uses index ≡ own.last_use s.mine index id) ⊎ (IsOfGroup s.group index × (number_of uses index ≡ own.next_number s.mine index))
+  pub distinct : AreDistinct uses
+
 -- An event that may come after these. The calls of a group are those that its link allows.
 abbrev pub MayHappen : List BackEvent → BackEvent → Type 0
 MayHappen before (Created group id kind) = (id.0 ≡ creates (journal_of before)) × IsKind kind
@@ -106,7 +114,7 @@ MayHappen before (Ran batch node) = queue.MayRun (queue_history before) batch no
 MayHappen before (Retired serial) = MayRetire before serial
 MayHappen before (Fetched group id at bytes) =
     HostMay (link_of before group) id.0 at (length bytes) × own.IsReadable (own.log_of (link_of before group).mine) id.0 at (length bytes)
-MayHappen before (Gave group id uses) = MayGive (link_of before group) id.0 uses
+MayHappen before (Gave group id uses) = IsGiven (link_of before group) id.0 uses
 MayHappen before (Abandoned group id) = (link_of before group).held id.0 ≡ true
 MayHappen before (Cleaned read destroyed) = WereRead before read × (destroyed ≤ length (covered_in before read))
 MayHappen before Closing = Unit {0}

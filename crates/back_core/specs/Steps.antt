@@ -7,7 +7,7 @@ use Rattle.vk_device.specs.declared.logged.Logged.{Logged}
 use Rattle.vk_device.specs.declared.logged.Turned.{Turned}
 use Rattle.vk_device.specs.declared.logged.Turned.TheVariants.{Ran, Idle}
 use Rattle.vk_device.specs.Order.{AllRan}
-use Rattle.resource_use.specs.Uses.{number_of, AreDistinct}
+use Rattle.resource_use.specs.Uses.{number_of}
 use Rattle.garbage.specs.declared.entry.Garbage.{Garbage}
 use Rattle.garbage.specs.Collecting.{collect}
 use Rattle.submit_queue.specs.Histories as queue
@@ -112,7 +112,6 @@ pub record CleansSomeOfAll {D : Type 0} (journal : D → List Logged) (old new :
 -- each object that the group made was given away, with uses that are completed
 pub record IsAllGiven (history : List BackEvent) (g : ℕ) : Type 0 where
   pub given : (id : ℕ) → IsSome ((link_of history g).kinds id) → IsSome ((link_of history g).given id)
-  pub distinct : (id : ℕ) (uses : List QueueSerial) → (link_of history g).given id ≡ Some uses → AreDistinct uses
   pub reached : (id : ℕ) (uses : List QueueSerial) → (link_of history g).given id ≡ Some uses → (index : ℕ) → number_of uses index ≤ completed history index
 
 -- no batch that was or will be handed to the back touches what these numbers cover

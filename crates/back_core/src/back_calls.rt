@@ -171,6 +171,7 @@ impl<D: Device> Back<D> {
         ensures device { self.new.device ≡ self.old.device }
     {
         runs_go_on();
+        item.uses.has_one_number_each();
         self.history.push_reserved(Stored::Gave {
             group,
             id: item.handle.id(),

@@ -1,12 +1,13 @@
 // One call of a thread: it is refused, or carried out.
-ghost use Rattle.std.specs.Prelude.{◌≡◌, true, false, None, [], IfOk, IfSome, OnOk, OnErr};
+ghost use Rattle.std.specs.Prelude.{◌≡◌, ◌+◌, ◌≤◌, true, false, None, [], IfOk, IfSome, OnOk, OnErr};
 ghost use Rattle.vk_device.specs.Faults.{HasCause};
 ghost use Rattle.gl_model.specs.Refusal.{refusal};
 ghost use Rattle.front_model.specs.Stands.{Owns};
 ghost use Rattle.front_moves.specs.Core.{face};
 ghost use Rattle.front_core.specs.Answering.{changes_contexts, reaches_buffers};
-ghost use Rattle.front_core.specs.Share.{MayCall, IsCarriedOut, HaveIndexes, HasOrigin, is_built, is_map_read, replaced_by};
+ghost use Rattle.front_core.specs.Share.{MayCall, IsCarriedOut, HaveIndexes, HasOrigin, is_built, is_map_read, replaced_by, upload_due};
 ghost use Rattle.front_core.specs.Front.{MayAnswer, IsAnswered};
+ghost use Rattle.front_moves.specs.Uploads.{uploaded};
 
 use crate::answers_come_to::answers_come_to;
 use crate::share::Share;
@@ -59,6 +60,7 @@ impl Share {
         ensures err { OnErr result (Owns (face self.new.core).objects (L.state link.new)) }
         ensures cause { HasCause (L.faults link.old) (L.faults link.new) result }
         ensures outside { L.outside link.new ≡ L.outside link.old }
+        ensures uploads { uploaded (L.state link.new).mine ≤ uploaded (L.state link.old).mine }
     {
         match call {
             Call::CreateContext { number } => self.create_context(link, thread, *number),
@@ -85,6 +87,7 @@ impl Share {
         ensures err { OnErr result (Owns (face self.new.core).objects (L.state link.new)) }
         ensures cause { HasCause (L.faults link.old) (L.faults link.new) result }
         ensures outside { L.outside link.new ≡ L.outside link.old }
+        ensures uploads { uploaded (L.state link.new).mine ≤ uploaded (L.state link.old).mine + upload_due call.now }
     {
         match call {
             Call::BufferData {
@@ -143,6 +146,7 @@ impl Share {
         ensures err { OnErr result (Owns (face self.new.core).objects (L.state link.new)) }
         ensures cause { HasCause (L.faults link.old) (L.faults link.new) result }
         ensures outside { L.outside link.new ≡ L.outside link.old }
+        ensures uploads { uploaded (L.state link.new).mine ≤ uploaded (L.state link.old).mine + upload_due call.now }
     {
         if reaches_buffers(call) {
             self.buffer_call(link, thread, call)
@@ -169,6 +173,7 @@ impl Share {
         ensures err { OnErr result (Owns (face self.new.core).objects (L.state link.new)) }
         ensures cause { HasCause (L.faults link.old) (L.faults link.new) result }
         ensures outside { L.outside link.new ≡ L.outside link.old }
+        ensures uploads { uploaded (L.state link.new).mine ≤ uploaded (L.state link.old).mine + upload_due call.now }
     {
         if changes_contexts(call) {
             return match self.context_call(link, thread, call) {
@@ -200,6 +205,7 @@ impl Share {
         ensures err { OnErr result (Owns (face self.new.core).objects (L.state link.new)) }
         ensures cause { HasCause (L.faults link.old) (L.faults link.new) result }
         ensures outside { L.outside link.new ≡ L.outside link.old }
+        ensures uploads { uploaded (L.state link.new).mine ≤ uploaded (L.state link.old).mine + upload_due call.now }
     {
         answers_come_to();
         match decide(self.state.group(), thread, call) {

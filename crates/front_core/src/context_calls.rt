@@ -7,6 +7,7 @@ ghost use Rattle.front_model.specs.Face.{outline_at, view};
 ghost use Rattle.front_model.specs.Stands.{Holds, Owns, Moved, IsQuiet, no_hands};
 ghost use Rattle.front_moves.specs.Core.{face};
 ghost use Rattle.front_core.specs.Share.{MayCall, IsCarriedOut, HaveIndexes, IsLowestFree, replaced_index};
+ghost use Rattle.front_moves.specs.Uploads.{uploaded};
 
 use crate::share::Share;
 use crate::state_calls_come_to::state_calls_come_to;
@@ -74,6 +75,7 @@ impl Share {
         ensures err { OnErr result (Owns (face self.new.core).objects (L.state link.new)) }
         ensures cause { HasCause (L.faults link.old) (L.faults link.new) result }
         ensures outside { L.outside link.new ≡ L.outside link.old }
+        ensures uploads { uploaded (L.state link.new).mine ≤ uploaded (L.state link.old).mine }
     {
         match self.given_up(thread, number) {
             Some(index) => self.core.flush(link, index, Reason::Switch),
@@ -97,6 +99,7 @@ impl Share {
         ensures err { OnErr result (Owns (face self.new.core).objects (L.state link.new)) }
         ensures cause { HasCause (L.faults link.old) (L.faults link.new) result }
         ensures outside { L.outside link.new ≡ L.outside link.old }
+        ensures uploads { uploaded (L.state link.new).mine ≤ uploaded (L.state link.old).mine }
     {
         state_calls_come_to();
         let Some(index) = free_index(&self.serials, self.core.group()) else {
@@ -126,6 +129,7 @@ impl Share {
         ensures err { OnErr result (Owns (face self.new.core).objects (L.state link.new)) }
         ensures cause { HasCause (L.faults link.old) (L.faults link.new) result }
         ensures outside { L.outside link.new ≡ L.outside link.old }
+        ensures uploads { uploaded (L.state link.new).mine ≤ uploaded (L.state link.old).mine }
     {
         match self.state_call(link, thread, &Call::DestroyContext { number }) {
             Ok(reply) => {
@@ -153,6 +157,7 @@ impl Share {
         ensures err { OnErr result (Owns (face self.new.core).objects (L.state link.new)) }
         ensures cause { HasCause (L.faults link.old) (L.faults link.new) result }
         ensures outside { L.outside link.new ≡ L.outside link.old }
+        ensures uploads { uploaded (L.state link.new).mine ≤ uploaded (L.state link.old).mine }
     {
         match self.switch(link, thread, u32::from(number)) {
             Ok(()) => match self.state_call(link, thread, &Call::MakeCurrent { number }) {

@@ -1,9 +1,10 @@
 // The calls that copy between buffers and map them.
-ghost use Rattle.std.specs.Prelude.{◌≡◌, IfOk, OnErr};
+ghost use Rattle.std.specs.Prelude.{◌≡◌, ◌≤◌, IfOk, OnErr};
 ghost use Rattle.vk_device.specs.Faults.{HasCause};
 ghost use Rattle.front_model.specs.Stands.{Owns};
 ghost use Rattle.front_moves.specs.Core.{face};
 ghost use Rattle.front_core.specs.Share.{MayCall, IsCarriedOut, HaveIndexes};
+ghost use Rattle.front_moves.specs.Uploads.{uploaded};
 
 use crate::copy_calls_come_to::copy_calls_come_to;
 use crate::share::Share;
@@ -32,6 +33,7 @@ impl Share {
         ensures err { OnErr result (Owns (face self.new.core).objects (L.state link.new)) }
         ensures cause { HasCause (L.faults link.old) (L.faults link.new) result }
         ensures outside { L.outside link.new ≡ L.outside link.old }
+        ensures uploads { uploaded (L.state link.new).mine ≤ uploaded (L.state link.old).mine }
     {
         copy_calls_come_to();
         let Some((source, _)) = self.bound(thread, from) else {
@@ -78,6 +80,7 @@ impl Share {
         ensures err { OnErr result (Owns (face self.new.core).objects (L.state link.new)) }
         ensures cause { HasCause (L.faults link.old) (L.faults link.new) result }
         ensures outside { L.outside link.new ≡ L.outside link.old }
+        ensures uploads { uploaded (L.state link.new).mine ≤ uploaded (L.state link.old).mine }
     {
         copy_calls_come_to();
         let Some((buffer, _)) = self.bound(thread, target) else {

@@ -7,8 +7,9 @@ ghost use Rattle.back_core.specs.Needs.{IsOfGroup};
 ghost use Rattle.front_model.specs.Face.{Buffer, put_object, outline_at, view};
 ghost use Rattle.front_model.specs.Stands.{Holds, Owns, Moved, no_hands};
 ghost use Rattle.front_moves.specs.Core.{face, IsQuietBut, outline_of_size, new_cells};
-ghost use Rattle.front_core.specs.Share.{MayCall, IsCarriedOut, HaveIndexes};
+ghost use Rattle.front_core.specs.Share.{MayCall, IsCarriedOut, HaveIndexes, data_len};
 ghost use Rattle.front_core.specs.Filled.{IsFilled};
+ghost use Rattle.front_moves.specs.Uploads.{uploaded};
 
 use crate::data_calls_come_to::{buffers_are_filled, data_calls_come_to};
 use crate::share::Share;
@@ -34,6 +35,7 @@ impl Share {
         ensures err { OnErr result (Owns (face self.new.core).objects (L.state link.new)) }
         ensures cause { HasCause (L.faults link.old) (L.faults link.new) result }
         ensures outside { L.outside link.new ≡ L.outside link.old }
+        ensures uploads { uploaded (L.state link.new).mine ≤ uploaded (L.state link.old).mine + data_len payload.now }
     {
         data_calls_come_to();
         let Some((buffer, _)) = self.bound(thread, target) else {
@@ -68,6 +70,7 @@ impl Share {
         ensures err { OnErr result (Owns (face self.new.core).objects (L.state link.new)) }
         ensures cause { HasCause (L.faults link.old) (L.faults link.new) result }
         ensures outside { L.outside link.new ≡ L.outside link.old }
+        ensures uploads { uploaded (L.state link.new).mine ≤ uploaded (L.state link.old).mine + data_len payload.now }
     {
         buffers_are_filled();
         match payload {
@@ -96,6 +99,7 @@ impl Share {
         ensures err { OnErr result (Owns (face self.new.core).objects (L.state link.new)) }
         ensures cause { HasCause (L.faults link.old) (L.faults link.new) result }
         ensures outside { L.outside link.new ≡ L.outside link.old }
+        ensures uploads { uploaded (L.state link.new).mine ≤ uploaded (L.state link.old).mine + payload_len payload.now }
     {
         data_calls_come_to();
         let Some((buffer, facts)) = self.bound(thread, target) else {
@@ -135,6 +139,7 @@ impl Share {
         ensures err { OnErr result (Owns (face self.new.core).objects (L.state link.new)) }
         ensures cause { HasCause (L.faults link.old) (L.faults link.new) result }
         ensures outside { L.outside link.new ≡ L.outside link.old }
+        ensures uploads { uploaded (L.state link.new).mine ≤ uploaded (L.state link.old).mine + length bytes.now }
     {
         buffers_are_filled();
         if bytes.is_empty() {

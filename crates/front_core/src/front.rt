@@ -1,13 +1,14 @@
 // The front of a share group: its calls in turn, and their history.
-ghost use Rattle.std.specs.Prelude.{◌≡◌, ◌≤◌, ◌<◌, true, false, Contains, None, [], ◌∷◌, ◌++◌, IfOk, IfSome, OnOk, OnErr};
+ghost use Rattle.std.specs.Prelude.{◌≡◌, ◌+◌, ◌≤◌, ◌<◌, true, false, Contains, None, [], ◌∷◌, ◌++◌, IfOk, IfSome, OnOk, OnErr};
 ghost use Rattle.std.specs.Vec.{vec_len, vec_capacity};
 ghost use Rattle.vk_device.specs.Faults.{HasCause};
 ghost use Rattle.gl_model.specs.Refusal.{refusal};
 ghost use Rattle.gl_model.specs.Sizes.{HasItsData};
 ghost use Rattle.front_model.specs.Stands.{Owns};
 ghost use Rattle.front_moves.specs.Core.{face};
-ghost use Rattle.front_core.specs.Share.{HasOrigin, is_built, is_map_read, replaced_by};
+ghost use Rattle.front_core.specs.Share.{HasOrigin, is_built, is_map_read, replaced_by, upload_due};
 ghost use Rattle.front_core.specs.Front.{FrontStands, IsNewFront, HasAnswered, HasStopped, IsClosed, entry_of};
+ghost use Rattle.front_moves.specs.Uploads.{uploaded};
 
 use crate::histories_come_to::histories_come_to;
 use crate::share::Share;
@@ -113,6 +114,7 @@ impl Front {
         ensures err { OnErr result (HasStopped self.old self.new (L.state link.new)) }
         ensures cause { HasCause (L.faults link.old) (L.faults link.new) result }
         ensures outside { L.outside link.new ≡ L.outside link.old }
+        ensures uploads { uploaded (L.state link.new).mine ≤ uploaded (L.state link.old).mine + upload_due call.now }
     {
         histories_come_to();
         self.share.state.objects_are_referred_to();
@@ -164,6 +166,7 @@ impl Front {
         ensures err { OnErr result (HasStopped self.old self.new (L.state link.new)) }
         ensures cause { HasCause (L.faults link.old) (L.faults link.new) result }
         ensures outside { L.outside link.new ≡ L.outside link.old }
+        ensures uploads { uploaded (L.state link.new).mine ≤ uploaded (L.state link.old).mine }
     {
         histories_come_to();
         match self.share.core.close(link) {
@@ -185,6 +188,7 @@ impl Front {
         ensures rest { L.state link.new ≡ record (L.state link.old) { held = (L.state link.new).held } }
         ensures faults { L.faults link.old ≤ L.faults link.new }
         ensures outside { L.outside link.new ≡ L.outside link.old }
+        ensures uploads { uploaded (L.state link.new).mine ≤ uploaded (L.state link.old).mine }
     {
         let Front {
             share,

@@ -1,9 +1,11 @@
 // The calls on maps of buffers.
-ghost use Rattle.std.specs.Prelude.{◌≡◌, IfOk, OnErr};
+ghost use Rattle.std.specs.Prelude.{◌≡◌, ◌+◌, ◌≤◌, IfOk, OnErr};
+ghost use Rattle.gl_calls.specs.Words.{payload_len};
 ghost use Rattle.vk_device.specs.Faults.{HasCause};
 ghost use Rattle.front_model.specs.Stands.{Owns};
 ghost use Rattle.front_moves.specs.Core.{face};
 ghost use Rattle.front_core.specs.Share.{MayCall, IsCarriedOut, HasOrigin};
+ghost use Rattle.front_moves.specs.Uploads.{uploaded};
 
 use crate::calls_come_to::map_calls_come_to;
 use crate::share::Share;
@@ -30,6 +32,7 @@ impl Share {
         ensures err { OnErr result (Owns (face self.new.core).objects (L.state link.new)) }
         ensures cause { HasCause (L.faults link.old) (L.faults link.new) result }
         ensures outside { L.outside link.new ≡ L.outside link.old }
+        ensures uploads { uploaded (L.state link.new).mine ≤ uploaded (L.state link.old).mine }
     {
         map_calls_come_to();
         let Some((buffer, place)) = self.mapped(thread, target) else {
@@ -68,6 +71,7 @@ impl Share {
         ensures err { OnErr result (Owns (face self.new.core).objects (L.state link.new)) }
         ensures cause { HasCause (L.faults link.old) (L.faults link.new) result }
         ensures outside { L.outside link.new ≡ L.outside link.old }
+        ensures uploads { uploaded (L.state link.new).mine ≤ uploaded (L.state link.old).mine + payload_len payload.now }
     {
         map_calls_come_to();
         let Some((buffer, place)) = self.mapped(thread, target) else {

@@ -13,3 +13,4 @@ pub mod Waiting
 pub mod MovesInTurn
 pub mod EndedBuffers
 pub mod ClosedFronts
+pub mod Uploaded

@@ -1,6 +1,6 @@
 -- What a call's clauses say once its result was tested.
 use Rattle.std.proofs.Common.{◌≡◌, ℕ, ◌<◌, true, false, List, [], ◌++◌, length, sym, ◌∙◌, ap}
-use Rattle.std.specs.Prelude.{Result, Ok, Err, OnOk, OnErr, slice_set, slice_index_or}
+use Rattle.std.specs.Prelude.{Result, Ok, Err, OnOk, OnErr, IfOk, slice_set, slice_index_or}
 use Rattle.std.specs.Result.{is_ok, is_err}
 use Rattle.std.proofs.lemmas.Bool.{false≢true}
 use Rattle.std.proofs.lemmas.List.{get_or-set_same, set-set, append_assoc}
@@ -29,3 +29,13 @@ pushed_then {A} xs ys zs place one two inside first second =
 pub from_not_ok : {T E P : Type 0} (r : Result T E) → is_ok r ≡ false → OnErr r P → P
 from_not_ok (Ok v) ok p = absurd (false≢true (sym ok))
 from_not_ok (Err e) ok p = p
+
+-- what holds however a call ended
+pub on_either : {T E P N Q : Type 0} (r : Result T E) → (P → Q) → (N → Q) → OnOk r P → OnErr r N → Q
+on_either (Ok v) good bad p n = good p
+on_either (Err e) good bad p n = bad n
+
+-- what holds however a call ended that answers with a value
+pub if_either : {T E N Q : Type 0} {P : T → Type 0} (r : Result T E) → ((v : T) → P v → Q) → (N → Q) → IfOk r P → OnErr r N → Q
+if_either (Ok v) good bad p n = good v p
+if_either (Err e) good bad p n = bad n

@@ -5,9 +5,11 @@ ghost use Rattle.front_model.specs.Face.{Object, Stored};
 ghost use Rattle.front_model.specs.Stands.{Holds, Owns, no_hands};
 ghost use Rattle.front_moves.specs.Core.{face};
 ghost use Rattle.front_moves.specs.Ending.{HasClosed};
+ghost use Rattle.front_moves.specs.Uploads.{uploaded};
 
 use crate::closing_comes_to::{abandon_comes_to, close_comes_to};
 use crate::group_core::Core;
+use crate::uploads_come_to::uploads_come_to;
 use back_core::BackLink;
 use garbage::Garbage;
 use vk_types::{Reason, SerialIndex, Stop};
@@ -21,6 +23,7 @@ impl Core {
         ensures err { OnErr result (Owns (face self.new).objects (L.state link.new)) }
         ensures cause { HasCause (L.faults link.old) (L.faults link.new) result }
         ensures outside { L.outside link.new ≡ L.outside link.old }
+        ensures uploads { uploaded (L.state link.new).mine ≤ uploaded (L.state link.old).mine }
     {
         close_comes_to();
         match self.flush_each(link) {
@@ -41,6 +44,7 @@ impl Core {
         ensures err { OnErr result (Owns (face self.new).objects (L.state link.new)) }
         ensures cause { HasCause (L.faults link.old) (L.faults link.new) result }
         ensures outside { L.outside link.new ≡ L.outside link.old }
+        ensures uploads { uploaded (L.state link.new).mine ≤ uploaded (L.state link.old).mine }
     {
         for place in 0..8u8 {
             let index = SerialIndex::new(8 * self.group + place);
@@ -61,6 +65,7 @@ impl Core {
         ensures group { (face self.new).group ≡ (face self.old).group }
         ensures faults { L.faults link.old ≤ L.faults link.new }
         ensures outside { L.outside link.new ≡ L.outside link.old }
+        ensures uploads { uploaded (L.state link.new).mine ≤ uploaded (L.state link.old).mine }
     {
         while let Some(buffer) = self.buffers.first() {
             self.end(link, buffer);
@@ -74,8 +79,10 @@ impl Core {
         ensures let_go { (o : Object) (x : Stored) → (face self).objects o ≡ Some x → (L.state link.new).held x.handle ≡ false }
         ensures faults { L.faults link.old ≤ L.faults link.new }
         ensures outside { L.outside link.new ≡ L.outside link.old }
+        ensures uploads { uploaded (L.state link.new).mine ≤ uploaded (L.state link.old).mine }
     {
         abandon_comes_to();
+        uploads_come_to();
         let Core {
             alloc: _,
             group: _,

@@ -3,6 +3,7 @@ ghost use Rattle.std.specs.Prelude.{◌≡◌, ◌≤◌};
 ghost use Rattle.front_model.specs.Stands.{Holds, no_hands};
 ghost use Rattle.front_moves.specs.Core.{face};
 ghost use Rattle.front_moves.specs.Ending.{HasEnded};
+ghost use Rattle.front_moves.specs.Uploads.{uploaded};
 
 use crate::group_core::Core;
 use back_core::BackLink;
@@ -15,6 +16,7 @@ impl Core {
         ensures pending { (face self.new).pending ≡ (face self.old).pending }
         ensures faults { L.faults link.old ≤ L.faults link.new }
         ensures outside { L.outside link.new ≡ L.outside link.old }
+        ensures uploads { uploaded (L.state link.new).mine ≤ uploaded (L.state link.old).mine }
     {
         for buffer in buffers {
             self.end(link, *buffer);

@@ -9,10 +9,12 @@ ghost use Rattle.back_core.specs.Needs.{IsOfGroup};
 ghost use Rattle.front_model.specs.Face.{Buffer, outline_at, view, nodes_touch};
 ghost use Rattle.front_model.specs.Stands.{Holds, Owns, Moved, IsQuiet, no_hands};
 ghost use Rattle.front_moves.specs.Core.{face, IsFlushed, OnlyFlushed, HasFlushedSome, IsApart, IsParted};
+ghost use Rattle.front_moves.specs.Uploads.{uploaded};
 
 use crate::buffers::Buffers;
 use crate::comes_to::{flush_comes_to, new_comes_to};
 use crate::pending::Pending;
+use crate::uploads_come_to::uploads_come_to;
 use back_core::BackLink;
 use queue_serials::Indexes;
 use std::alloc::Global;
@@ -107,8 +109,10 @@ impl Core {
         ensures err { OnErr result (Owns (face self.new).objects (L.state link.new)) }
         ensures cause { HasCause (L.faults link.old) (L.faults link.new) result }
         ensures outside { L.outside link.new ≡ L.outside link.old }
+        ensures uploads { uploaded (L.state link.new).mine ≤ uploaded (L.state link.old).mine }
     {
         flush_comes_to();
+        uploads_come_to();
         let place = self.place(index);
         if self.pending.len(place) == 0 {
             return Ok(());
@@ -156,6 +160,7 @@ impl Core {
         ensures err { OnErr result (Owns (face self.new).objects (L.state link.new)) }
         ensures cause { HasCause (L.faults link.old) (L.faults link.new) result }
         ensures outside { L.outside link.new ≡ L.outside link.old }
+        ensures uploads { uploaded (L.state link.new).mine ≤ uploaded (L.state link.old).mine }
     {
         if self.is_touched(index, buffer) {
             return self.flush(link, index, Reason::Cross);
@@ -177,6 +182,7 @@ impl Core {
         ensures err { OnErr result (Owns (face self.new).objects (L.state link.new)) }
         ensures cause { HasCause (L.faults link.old) (L.faults link.new) result }
         ensures outside { L.outside link.new ≡ L.outside link.old }
+        ensures uploads { uploaded (L.state link.new).mine ≤ uploaded (L.state link.old).mine }
     {
         for place in 0..8u8 {
             let other = SerialIndex::new(8 * self.group + place);
@@ -207,6 +213,7 @@ impl Core {
         ensures err { OnErr result (Owns (face self.new).objects (L.state link.new)) }
         ensures cause { HasCause (L.faults link.old) (L.faults link.new) result }
         ensures outside { L.outside link.new ≡ L.outside link.old }
+        ensures uploads { uploaded (L.state link.new).mine ≤ uploaded (L.state link.old).mine }
     {
         match self.part_others(link, index, buffer) {
             Ok(()) => {}

@@ -9,10 +9,12 @@ ghost use Rattle.front_model.specs.Face.{Buffer, put_object, outline_at, view};
 ghost use Rattle.front_model.specs.Stands.{Holds, Owns, Moved, IsQuiet, no_hands};
 ghost use Rattle.front_model.specs.Wanted.{with_bytes, with_copy};
 ghost use Rattle.front_moves.specs.Core.{face, HasStore, IsQuietBut, outline_of_size, new_cells};
+ghost use Rattle.front_moves.specs.Uploads.{uploaded};
 
 use crate::group_core::Core;
 use crate::reading_comes_to::{host_comes_to, settle_comes_to};
 use crate::stores_come_to::end_comes_to;
+use crate::uploads_come_to::uploads_come_to;
 use back_core::BackLink;
 use vk_types::{QueueSerial, Reason, SerialIndex, Stop};
 
@@ -37,6 +39,7 @@ impl Core {
         ensures err { OnErr result (Owns (face self.new).objects (L.state link.new)) }
         ensures cause { HasCause (L.faults link.old) (L.faults link.new) result }
         ensures outside { L.outside link.new ≡ L.outside link.old }
+        ensures uploads { uploaded (L.state link.new).mine ≤ uploaded (L.state link.old).mine + length bytes.now }
     {
         match self.prepare(link, index, buffer) {
             Ok(()) => {
@@ -83,6 +86,7 @@ impl Core {
         ensures err { OnErr result (Owns (face self.new).objects (L.state link.new)) }
         ensures cause { HasCause (L.faults link.old) (L.faults link.new) result }
         ensures outside { L.outside link.new ≡ L.outside link.old }
+        ensures uploads { uploaded (L.state link.new).mine ≤ uploaded (L.state link.old).mine }
     {
         match self.prepare(link, index, src) {
             Ok(()) => match self.prepare(link, index, dst) {
@@ -112,6 +116,7 @@ impl Core {
         ensures err { OnErr result (Owns (face self.new).objects (L.state link.new)) }
         ensures cause { HasCause (L.faults link.old) (L.faults link.new) result }
         ensures outside { L.outside link.new ≡ L.outside link.old }
+        ensures uploads { uploaded (L.state link.new).mine ≤ uploaded (L.state link.old).mine + length bytes.now }
     {
         self.end(link, buffer);
         if bytes.is_empty() {
@@ -139,6 +144,7 @@ impl Core {
         ensures err { OnErr result (Owns (face self.new).objects (L.state link.new)) }
         ensures cause { HasCause (L.faults link.old) (L.faults link.new) result }
         ensures outside { L.outside link.new ≡ L.outside link.old }
+        ensures uploads { uploaded (L.state link.new).mine ≤ uploaded (L.state link.old).mine }
     {
         self.end(link, buffer);
         if size == 0 {
@@ -161,8 +167,10 @@ impl Core {
         ensures group { (face self.new).group ≡ (face self.old).group }
         ensures faults { L.faults link.old ≤ L.faults link.new }
         ensures outside { L.outside link.new ≡ L.outside link.old }
+        ensures uploads { uploaded (L.state link.new).mine ≤ uploaded (L.state link.old).mine }
     {
         end_comes_to();
+        uploads_come_to();
         if let Some(store) = self.buffers.take(buffer) {
             link.give(store.into_garbage());
         }
@@ -185,6 +193,7 @@ impl Core {
         ensures err { OnErr result (Owns (face self.new).objects (L.state link.new)) }
         ensures cause { HasCause (L.faults link.old) (L.faults link.new) result }
         ensures outside { L.outside link.new ≡ L.outside link.old }
+        ensures uploads { uploaded (L.state link.new).mine ≤ uploaded (L.state link.old).mine }
     {
         settle_comes_to();
         match self.prepare(link, index, buffer) {
@@ -220,8 +229,10 @@ impl Core {
         ensures err { OnErr result (Owns (face self.now).objects (L.state link.new)) }
         ensures cause { HasCause (L.faults link.old) (L.faults link.new) result }
         ensures outside { L.outside link.new ≡ L.outside link.old }
+        ensures uploads { uploaded (L.state link.new).mine ≤ uploaded (L.state link.old).mine }
     {
         host_comes_to();
+        uploads_come_to();
         match self.buffers.get(buffer) {
             Some(store) => link.read_host(store.id(), at, out),
             None => Ok(()),
@@ -246,8 +257,10 @@ impl Core {
         ensures err { OnErr result (Owns (face self.now).objects (L.state link.new)) }
         ensures cause { HasCause (L.faults link.old) (L.faults link.new) result }
         ensures outside { L.outside link.new ≡ L.outside link.old }
+        ensures uploads { uploaded (L.state link.new).mine ≤ uploaded (L.state link.old).mine + length bytes.now }
     {
         host_comes_to();
+        uploads_come_to();
         match self.buffers.get(buffer) {
             Some(store) => {
                 // the size is a number of 64 bits, so the range does not go past the last place

@@ -11,6 +11,7 @@ ghost use Rattle.front_model.specs.Stands.{Holds, Owns, Moved, IsQuiet, no_hands
 ghost use Rattle.front_model.specs.Steps.{full_barrier, fenced};
 ghost use Rattle.front_model.specs.Wanted.{with_copy};
 ghost use Rattle.front_moves.specs.Core.{face, in_hand, HasStore, IsParted, IsQuietBut, IsUntouched, IsRetired, EndsWithBarrier};
+ghost use Rattle.front_moves.specs.Uploads.{uploaded};
 
 use crate::group_core::Core;
 use crate::pending::Pending;
@@ -18,6 +19,7 @@ use crate::reading_comes_to::waiting_comes_to;
 use crate::recording_comes_to::{
     barrier_comes_to, copy_comes_to, stopped_recording_comes_to, upload_comes_to,
 };
+use crate::uploads_come_to::uploads_come_to;
 use back_core::BackLink;
 use garbage::Garbage;
 use vk_types::{Access, Barrier, HandleId, Node, Op, QueueSerial, SerialIndex, Stop};
@@ -96,9 +98,11 @@ impl Core {
         ensures err { OnErr result (Owns (face self.new).objects (L.state link.new)) }
         ensures cause { HasCause (L.faults link.old) (L.faults link.new) result }
         ensures outside { L.outside link.new ≡ L.outside link.old }
+        ensures uploads { uploaded (L.state link.new).mine ≤ uploaded (L.state link.old).mine }
     {
         upload_comes_to();
         stopped_recording_comes_to();
+        uploads_come_to();
         let place = self.place(serial.index);
         let src = staging.handle.id();
         let dst = self.id_of(buffer);
@@ -215,8 +219,10 @@ impl Core {
         ensures err { OnErr result (Owns (face self.now).objects (L.state link.new)) }
         ensures cause { HasCause (L.faults link.old) (L.faults link.new) result }
         ensures outside { L.outside link.new ≡ L.outside link.old }
+        ensures uploads { uploaded (L.state link.new).mine ≤ uploaded (L.state link.old).mine }
     {
         waiting_comes_to();
+        uploads_come_to();
         for place in 0..8u8 {
             let index = SerialIndex::new(8 * self.group + place);
             let number = self.last_use(index, buffer);

@@ -1,13 +1,15 @@
 // How stores are made and put into buffers.
-ghost use Rattle.std.specs.Prelude.{◌≡◌, ℕ, ◌==◌, ◌<◌, if◌then◌else◌, Some, None, length, OnOk, OnErr, IfOk};
+ghost use Rattle.std.specs.Prelude.{◌≡◌, ℕ, ◌+◌, ◌==◌, ◌<◌, ◌≤◌, if◌then◌else◌, Some, None, length, OnOk, OnErr, IfOk};
 ghost use Rattle.vk_device.specs.Faults.{HasCause};
 ghost use Rattle.resource_use.specs.Uses.{number_of};
 ghost use Rattle.front_model.specs.Face.{Buffer, put_object, outline_at, view, recorded};
 ghost use Rattle.front_model.specs.Stands.{Holds, Owns, Moved, no_hands};
 ghost use Rattle.front_moves.specs.Core.{face, in_hand, HasFresh, IsQuietBut, outline_of_size};
+ghost use Rattle.front_moves.specs.Uploads.{uploaded};
 
 use crate::group_core::Core;
 use crate::stores_come_to::{begin_comes_to, blank_comes_to, filled_comes_to};
+use crate::uploads_come_to::uploads_come_to;
 use back_core::BackLink;
 use buffer_helper::BufferHelper;
 use garbage::Garbage;
@@ -23,8 +25,10 @@ impl Core {
         ensures err { OnErr result (Owns (face self.now).objects (L.state link.new)) }
         ensures cause { HasCause (L.faults link.old) (L.faults link.new) result }
         ensures outside { L.outside link.new ≡ L.outside link.old }
+        ensures uploads { uploaded (L.state link.new).mine ≤ uploaded (L.state link.old).mine }
     {
         blank_comes_to();
+        uploads_come_to();
         link.create(Kind::Buffer { size })
     }
 
@@ -36,8 +40,10 @@ impl Core {
         ensures err { OnErr result (Owns (face self.now).objects (L.state link.new)) }
         ensures cause { HasCause (L.faults link.old) (L.faults link.new) result }
         ensures outside { L.outside link.new ≡ L.outside link.old }
+        ensures uploads { uploaded (L.state link.new).mine ≤ uploaded (L.state link.old).mine + length bytes.now }
     {
         filled_comes_to();
+        uploads_come_to();
         match self.blank(link, bytes.len() as u64) {
             Ok(handle) => match link.write_host(handle.id(), 0, bytes) {
                 Ok(()) => Ok(handle),
@@ -64,6 +70,7 @@ impl Core {
         ensures err { OnErr result (Owns (face self.now).objects (L.state link.new)) }
         ensures cause { HasCause (L.faults link.old) (L.faults link.new) result }
         ensures outside { L.outside link.new ≡ L.outside link.old }
+        ensures uploads { uploaded (L.state link.new).mine ≤ uploaded (L.state link.old).mine + length bytes.now }
     {
         filled_comes_to();
         let mut uses = ResourceUse::new(self.alloc);
@@ -95,9 +102,11 @@ impl Core {
         ensures err { OnErr result (Owns (face self.new).objects (L.state link.new)) }
         ensures cause { HasCause (L.faults link.old) (L.faults link.new) result }
         ensures outside { L.outside link.new ≡ L.outside link.old }
+        ensures uploads { uploaded (L.state link.new).mine ≤ uploaded (L.state link.old).mine }
     {
         begin_comes_to();
         filled_comes_to();
+        uploads_come_to();
         match self
             .buffers
             .insert(buffer, BufferHelper::new(self.alloc, fresh, size))

@@ -2,7 +2,7 @@
 ghost use Rattle.std.specs.Prelude.{◌≡◌, ◌==◌, ℕ, max, cond, [], IfOk, OnOk, OnErr, ◌∷◌, ◌++◌, IsTrue, IfNone, IfSome, ◌↔◌, ◌<◌, true, false, length, slice_index_or};
 ghost use Rattle.std.specs.Bool.{OnTrue, OnFalse};
 ghost use Rattle.vk_types.specs.declared.batches.QueueSerial.{QueueSerial};
-ghost use Rattle.resource_use.specs.Uses.{number_of, noted, merged, Covers, are_covered};
+ghost use Rattle.resource_use.specs.Uses.{number_of, noted, merged, Covers, are_covered, AreDistinct};
 
 use crate::Use;
 use smallvec::SmallVec;
@@ -79,6 +79,13 @@ impl ResourceUse {
         ensures { result ≡ number_of self.now index }
     {
         number_in(self.serials.as_slice(), index)
+    }
+
+    /// No two of the uses have one index.
+    pub fn has_one_number_each(&self)
+        ensures { AreDistinct self.now }
+    {
+        let _serials = &self.serials;
     }
 
     /// The same uses.

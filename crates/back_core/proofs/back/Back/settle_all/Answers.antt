@@ -1,9 +1,7 @@
-use Rattle.std.proofs.Common.{arith, ◌≡◌, ◌≤◌, ◌<◌, ◌+◌, ℕ, true, false, cond, sym, ap, subst, refl}
-use Rattle.std.proofs.lemmas.Bool.{false≢true}
+use Rattle.std.proofs.Common.{arith, ◌≡◌, ℕ, cond, ap, subst}
 use Rattle.back_core.specs.declared.ending.Step.TheVariants as step
 use Rattle.back_core.specs.Run.{work_left}
-use Rattle.back_core.specs.Steps.{Proceeds, MakesOne, IsIdle, HasGoneOn}
-use Rattle.back_core.proofs.Waiting.{gone_more, gone_none}
+use Rattle.back_core.specs.Steps.{Proceeds, MakesOne}
 use Rattle.back_core.proofs.back.Back.settle_all.Goals as goal
 
 pub loop-going-smaller-in-Done : goal.loop-going-smaller-in-Done

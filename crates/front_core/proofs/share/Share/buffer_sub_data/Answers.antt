@@ -6,6 +6,7 @@ use Rattle.gl_calls.specs.declared.reply.Reply.TheVariants as reply
 use Rattle.gl_calls.specs.Words.{payload_len, payload_bytes}
 use Rattle.gl_model.specs.declared.state.GroupState.{GroupState}
 use Rattle.front_moves.specs.Core.{face}
+use Rattle.front_moves.specs.Uploads.{uploaded}
 use Rattle.front_core.specs.Share.{IsCarriedOut}
 use Rattle.front_core.proofs.BufferCalls.{bound_has, store_is, length-payload_bytes}
 use Rattle.front_core.proofs.DataCalls.{filled_as}
@@ -42,3 +43,13 @@ returns-in-Ok-fill-clause-done g c =
     (c.data_calls_come_to.ensures.filled (face c.args.self.now.core) (face c.fill.new.self.core) (g.L.BackLink.state c.args.link.now) (g.L.BackLink.state c.fill.new.link) c.args.self.now.state c.args.thread c.in-Some.buffer c.in-Some.facts c.args.target c.args.offset c.args.payload.now c.requires.may c.in-Some.ensures.some
     (filled_as (face c.args.self.now.core) (face c.fill.new.self.core) (g.L.BackLink.state c.args.link.now) (g.L.BackLink.state c.fill.new.link) c.in-Some.buffer c.in-Some.facts.size c.unsigned_abs-at.result (unsigned_abs c.args.offset) c.as_slice.result.now (payload_bytes c.args.payload.now)
     at_is (c.as_slice.ensures ∙ c.in-Ok.ensures) c.in-Ok-fill.ensures.filled))
+
+pub returns-in-Ok-fill-clause-uploads : goal.returns-in-Ok-fill-clause-uploads
+returns-in-Ok-fill-clause-uploads g c =
+    let len_is : length c.as_slice.result.now ≡ payload_len c.args.payload.now = ap length (c.as_slice.ensures ∙ c.in-Ok.ensures) ∙ length-payload_bytes c.args.payload.now in
+    subst (λ n. uploaded (g.L.BackLink.state c.fill.new.link).mine ≤ uploaded (g.L.BackLink.state c.args.link.now).mine + n) len_is c.fill.ensures.uploads
+
+pub returns-clause-uploads : goal.returns-clause-uploads
+returns-clause-uploads g c =
+    let len_is : length c.as_slice.result.now ≡ payload_len c.args.payload.now = ap length (c.as_slice.ensures ∙ c.in-Ok.ensures) ∙ length-payload_bytes c.args.payload.now in
+    subst (λ n. uploaded (g.L.BackLink.state c.fill.new.link).mine ≤ uploaded (g.L.BackLink.state c.args.link.now).mine + n) len_is c.fill.ensures.uploads

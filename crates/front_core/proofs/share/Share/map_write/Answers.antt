@@ -1,9 +1,10 @@
-use Rattle.std.proofs.Common.{arith, rules, ◌≡◌, ℕ, ◌+◌, ◌<◌, refl, sym, ◌∙◌, ap, subst, w64, length}
+use Rattle.std.proofs.Common.{arith, rules, ◌≡◌, ℕ, ◌+◌, ◌<◌, ◌≤◌, refl, sym, ◌∙◌, ap, subst, w64, length}
 use Rattle.std.proofs.Math.Facts.{to_z-of_z}
 use Rattle.std.specs.Prelude.{unsigned_abs}
 use Rattle.gl_calls.specs.declared.call.Call.TheVariants as call
 use Rattle.gl_calls.specs.Words.{payload_len, payload_bytes}
 use Rattle.front_moves.specs.Core.{face}
+use Rattle.front_moves.specs.Uploads.{uploaded}
 use Rattle.front_core.proofs.BufferCalls.{InMap, Reach, in_map, has_reach, length-payload_bytes, wrote_as, wrote_nothing}
 use Rattle.front_core.proofs.share.Share.map_write.Goals as goal
 
@@ -55,3 +56,13 @@ returns-in-Ok-write-clause-done g c =
     c.map_calls_come_to.ensures.write (face c.args.self.now.core) (g.L.BackLink.state c.args.link.now) (g.L.BackLink.state c.write.new.link) c.args.self.now.state c.args.thread c.in-Some.buffer c.in-Some.place c.args.target c.args.offset c.args.payload.now c.requires c.in-Some.ensures.some
     (wrote_as (face c.args.self.now.core) (g.L.BackLink.state c.args.link.now) (g.L.BackLink.state c.write.new.link) c.in-Some.buffer _ (c.in-Some.place + unsigned_abs c.args.offset) _ (payload_bytes c.args.payload.now)
     (ap (λ n. c.in-Some.place + n) at_is) (c.as_slice-2.ensures ∙ c.in-Ok.ensures) c.in-Ok-write.ensures.moved)
+
+pub returns-in-Ok-write-clause-uploads : goal.returns-in-Ok-write-clause-uploads
+returns-in-Ok-write-clause-uploads g c =
+    let len_is : length c.as_slice-2.result.now ≡ payload_len c.args.payload.now = ap length (c.as_slice-2.ensures ∙ c.in-Ok.ensures) ∙ length-payload_bytes c.args.payload.now in
+    subst (λ n. uploaded (g.L.BackLink.state c.write.new.link).mine ≤ uploaded (g.L.BackLink.state c.args.link.now).mine + n) len_is c.write.ensures.uploads
+
+pub returns-clause-uploads : goal.returns-clause-uploads
+returns-clause-uploads g c =
+    let len_is : length c.as_slice-2.result.now ≡ payload_len c.args.payload.now = ap length (c.as_slice-2.ensures ∙ c.in-Ok.ensures) ∙ length-payload_bytes c.args.payload.now in
+    subst (λ n. uploaded (g.L.BackLink.state c.write.new.link).mine ≤ uploaded (g.L.BackLink.state c.args.link.now).mine + n) len_is c.write.ensures.uploads

@@ -1,8 +1,10 @@
-use Rattle.std.proofs.Common.{◌≡◌, ap, ◌∙◌, []}
+use Rattle.std.proofs.Common.{◌≡◌, ap, ◌∙◌, [], arith}
 use Rattle.tables.specs.Table.{with_entry}
 use Rattle.buffer_helper.specs.Buffers.{BufferStore}
 use Rattle.front_moves.specs.Core.{CoreParts, face}
 use Rattle.front_moves.proofs.BufferLaws.{buffers_changed}
+use Rattle.back_core.specs.Link.{Link}
+use Rattle.front_moves.specs.Uploads.{uploaded}
 use Rattle.front_moves.proofs.group_core.Core.begin.Goals.{in-Ok, in-Err}
 use Rattle.front_moves.proofs.group_core.Core.begin.Goals as goal
 
@@ -30,4 +32,14 @@ returns-clause-err g c = elim c.match-insert.branch [
       let same : c.insert.new.self ≡ c.args.self.now.buffers = w.in-Err.ensures.err ∙ ap (λ (p : CoreParts). p.buffers) c.self.view_is in
       rw (w.result-is, w.link-is, w.abandon.ensures.state, w.into_garbage-handle.ensures, w.in-Err.ensures.handed_back, c.new.ensures, same)
       (c.filled_comes_to.ensures.let_go (face c.args.self.now) (g.L.BackLink.state c.args.link.now) c.args.fresh.0 c.args.size c.requires.holds)
+]
+
+pub returns-clause-uploads : goal.returns-clause-uploads
+returns-clause-uploads g c = elim c.match-insert.branch [
+  | in-Ok w ↦ rw w.link-is (omega arith)
+  | in-Err w ↦
+      let s : Link = g.L.BackLink.state c.args.link.now in
+      let t : Link = g.L.BackLink.state w.abandon.new.self in
+      let same : uploaded t.mine ≡ uploaded s.mine = c.uploads_come_to.ensures.lets_go s t w.into_garbage-handle.result.handle.0 w.abandon.ensures.state in
+      rw w.link-is (omega arith)
 ]

@@ -1,8 +1,10 @@
-use Rattle.std.proofs.Common.{◌≡◌, ap, ◌∙◌, sym, refl, ℕ, ◌==◌, None}
+use Rattle.std.proofs.Common.{◌≡◌, ap, ◌∙◌, sym, refl, ℕ, ◌==◌, None, arith}
 use Rattle.std.specs.Prelude.{if◌then◌else◌}
 use Rattle.tables.specs.Table.{entry}
 use Rattle.front_moves.specs.Core.{CoreParts}
 use Rattle.front_moves.proofs.BufferLaws.{buffers_changed}
+use Rattle.back_core.specs.Link.{Link}
+use Rattle.front_moves.specs.Uploads.{uploaded}
 use Rattle.front_moves.proofs.group_core.Core.end.Goals.{in-Some, in_default}
 use Rattle.front_moves.proofs.group_core.Core.end.Goals as goal
 
@@ -32,3 +34,13 @@ returns-clause-moved g c =
           (c.end_comes_to.ensures.nothing c.args.self.now inside (g.L.BackLink.state c.args.link.now) c.args.buffer c.requires.holds
           (sym (has_entry c.args.self.now _ c.args.buffer c.self.view_is) ∙ sym c.take.ensures.taken ∙ w.in_default.is) is each)
     ]
+
+pub returns-clause-uploads : goal.returns-clause-uploads
+returns-clause-uploads g c = elim c.match-take.branch [
+  | in-Some w ↦
+      let s : Link = g.L.BackLink.state c.args.link.now in
+      let t : Link = g.L.BackLink.state w.give.new.self in
+      let same : uploaded t.mine ≡ uploaded s.mine = c.uploads_come_to.ensures.gives s t w.into_garbage.result.handle.0 w.into_garbage.result.uses w.give.ensures.state in
+      rw w.link-is (omega arith)
+  | in_default w ↦ rw w.link-is (omega arith)
+]

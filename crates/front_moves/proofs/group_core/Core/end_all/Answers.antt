@@ -7,7 +7,7 @@ use Rattle.front_moves.proofs.EndedBuffers.{none_ended, one_more_ended}
 use Rattle.front_moves.proofs.group_core.Core.end_all.Goals as goal
 
 pub loop-buffer-init : goal.loop-buffer-init
-loop-buffer-init g c = record { ended = none_ended (face c.args.self.now) (g.L.BackLink.state c.args.link.now) c.requires.holds; pending = refl; faults = search rules; outside = refl }
+loop-buffer-init g c = record { ended = none_ended (face c.args.self.now) (g.L.BackLink.state c.args.link.now) c.requires.holds; pending = refl; faults = search rules; outside = refl; uploads = search rules }
 
 pub end-requires : goal.end-requires
 end-requires g c = record { holds = c.loop-buffer.invariant.ended.holds }
@@ -21,6 +21,7 @@ loop-buffer-preserved g c = record {
   pending = c.end.ensures.pending ∙ c.loop-buffer.invariant.pending;
   faults = grind (arith, c.loop-buffer.invariant.faults, c.end.ensures.faults);
   outside = c.end.ensures.outside ∙ c.loop-buffer.invariant.outside;
+  uploads = grind (arith, c.loop-buffer.invariant.uploads, c.end.ensures.uploads);
 }
 
 pub returns-clause-ended : goal.returns-clause-ended
@@ -31,3 +32,6 @@ returns-clause-ended g c =
 
 pub returns-clause-faults : goal.returns-clause-faults
 returns-clause-faults g c = c.loop-buffer.invariant.faults
+
+pub returns-clause-uploads : goal.returns-clause-uploads
+returns-clause-uploads g c = c.loop-buffer.invariant.uploads

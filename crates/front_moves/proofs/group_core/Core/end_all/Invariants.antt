@@ -2,6 +2,7 @@ use Rattle.std.proofs.Common.{◌≡◌, ◌≤◌}
 use Rattle.std.specs.Prelude.{take}
 use Rattle.front_moves.specs.Core.{face}
 use Rattle.front_moves.specs.Ending.{HasEnded}
+use Rattle.front_moves.specs.Uploads.{uploaded}
 use Rattle.front_moves.proofs.group_core.Core.end_all.Given as goal
 
 abbrev pub invariant-loop-buffer : goal.invariant-loop-buffer
@@ -10,4 +11,5 @@ invariant-loop-buffer g l = record {
   pending : (face l.self).pending ≡ (face l.fn.self).pending;
   faults : g.L.BackLink.faults l.fn.link ≤ g.L.BackLink.faults l.link;
   outside : g.L.BackLink.outside l.link ≡ g.L.BackLink.outside l.fn.link;
+  uploads : uploaded (g.L.BackLink.state l.link).mine ≤ uploaded (g.L.BackLink.state l.fn.link).mine;
 }

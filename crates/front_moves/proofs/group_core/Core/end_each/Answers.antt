@@ -8,4 +8,5 @@ loop-buffer-preserved g c = record {
   group = c.end.ensures.group ∙ c.loop-buffer.invariant.group;
   faults = let low = c.loop-buffer.invariant.faults in let later = c.end.ensures.faults in omega (arith, low, later);
   outside = c.end.ensures.outside ∙ c.loop-buffer.invariant.outside;
+  uploads = let low = c.loop-buffer.invariant.uploads in let later = c.end.ensures.uploads in omega (arith, low, later);
 }

@@ -1,6 +1,7 @@
 use Rattle.std.proofs.Common.{◌≡◌, ◌≤◌, length}
 use Rattle.front_model.specs.Stands.{Holds, no_hands}
 use Rattle.front_moves.specs.Core.{face}
+use Rattle.front_moves.specs.Uploads.{uploaded}
 use Rattle.front_moves.proofs.group_core.Core.end_each.Given as goal
 
 abbrev pub invariant-loop-buffer : goal.invariant-loop-buffer
@@ -10,6 +11,7 @@ invariant-loop-buffer g l = record {
   group : (face l.self).group ≡ (face l.fn.self).group;
   faults : g.L.BackLink.faults l.fn.link ≤ g.L.BackLink.faults l.link;
   outside : g.L.BackLink.outside l.link ≡ g.L.BackLink.outside l.fn.link;
+  uploads : uploaded (g.L.BackLink.state l.link).mine ≤ uploaded (g.L.BackLink.state l.fn.link).mine;
 }
 
 abbrev pub decreases-loop-buffer : goal.decreases-loop-buffer

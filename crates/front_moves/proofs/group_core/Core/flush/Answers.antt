@@ -6,6 +6,8 @@ use Rattle.back_core.specs.Link.{Link}
 use Rattle.front_model.specs.Steps.{IsNextBatch}
 use Rattle.front_moves.specs.Core.{CoreParts, face, HasFlushed}
 use Rattle.front_moves.proofs.Flushing.{IsAtPlace, same_place, next_batch}
+use Rattle.front_moves.proofs.Uploaded.{not_more}
+use Rattle.front_moves.specs.Uploads.{uploaded}
 use Rattle.front_moves.proofs.group_core.Core.flush.Goals as goal
 use Rattle.front_moves.proofs.group_core.Core.flush.Goals.{in-Ok, in-Err}
 
@@ -37,7 +39,7 @@ returns g c =
       | in-Ok w ↦
           let h : HasFlushed (face c.args.self.now) (face d) s t c.args.index = subst (λ x. HasFlushed (face x) (face d) s t c.args.index) c.self.view_is
           (c.flush_comes_to.ensures.batch k d s t c.args.index c.place-place.result batch here.holds here.own here.at next_ w.in-Ok.ensures.room c.next-number.ensures.last core w.in-Ok.ensures.ok) in
-          rw w.result-is (record { moved = h.moved; flushed = h.flushed; group = group; log = h.log; err = tt; cause = record { later = c.enqueue.ensures.faults; lost = λ e. absurd cc }; outside = c.enqueue.ensures.outside })
+          rw w.result-is (record { moved = h.moved; flushed = h.flushed; group = group; log = h.log; err = tt; cause = record { later = c.enqueue.ensures.faults; lost = λ e. absurd cc }; outside = c.enqueue.ensures.outside; uploads = not_more (uploaded t.mine) (uploaded s.mine) (c.uploads_come_to.ensures.enqueues s t batch w.in-Ok.ensures.ok) })
       | in-Err w ↦ rw w.result-is (record {
         moved = tt;
         flushed = tt;
@@ -46,5 +48,15 @@ returns g c =
         err = rw w.in-Err.ensures.err (c.flush_comes_to.ensures.owns k s here.holds);
         cause = record { later = c.enqueue.ensures.faults; lost = λ e. absurd cc };
         outside = c.enqueue.ensures.outside;
+        uploads = not_more (uploaded t.mine) (uploaded s.mine) (c.uploads_come_to.ensures.stays s t w.in-Err.ensures.err);
       })
     ]
+
+pub returns-then-len-eq0-clause-log : goal.returns-then-len-eq0-clause-log
+returns-then-len-eq0-clause-log g c =
+    let k : CoreParts = record { indexes = c.self.inside.indexes; pending = c.self.inside.pending; buffers = c.self.inside.buffers } in
+    let s : Link = g.L.BackLink.state c.args.link.now in
+    let here : IsAtPlace k s c.args.index c.place-place.result = same_place k c.args.self.now s c.args.index c.place-place.result c.self.view_is c.requires.holds c.requires.group c.place-place.ensures.place in
+    let h : HasFlushed (face c.args.self.now) (face c.args.self.now) s s c.args.index = subst (λ x. HasFlushed (face x) (face x) s s c.args.index) c.self.view_is
+    (c.flush_comes_to.ensures.nothing k s c.args.index c.place-place.result here.holds here.own here.at (let none = c.len.ensures in cc)) in
+    h.log

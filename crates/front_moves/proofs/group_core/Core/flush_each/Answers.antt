@@ -4,7 +4,7 @@ use Rattle.front_moves.proofs.ClosedFronts.{flushed_to_none, flushed_one, all_fl
 use Rattle.front_moves.proofs.group_core.Core.flush_each.Goals as goal
 
 pub loop-place-init : goal.loop-place-init
-loop-place-init g c = record { flushed = flushed_to_none (face c.args.self.now) (g.L.BackLink.state c.args.link.now) c.requires.holds; group = refl; faults = omega arith; outside = refl }
+loop-place-init g c = record { flushed = flushed_to_none (face c.args.self.now) (g.L.BackLink.state c.args.link.now) c.requires.holds; group = refl; faults = omega arith; outside = refl; uploads = omega arith }
 
 pub loop-place-preserved : goal.loop-place-preserved
 loop-place-preserved g c =
@@ -19,6 +19,7 @@ loop-place-preserved g c =
       group = c.flush.ensures.group ∙ c.loop-place.invariant.group;
       faults = let low = c.loop-place.invariant.faults in let later = c.flush.ensures.cause.later in omega (arith, low, later);
       outside = c.flush.ensures.outside ∙ c.loop-place.invariant.outside;
+      uploads = let low = c.loop-place.invariant.uploads in let later = c.flush.ensures.uploads in omega (arith, low, later);
     }
 
 pub returns-clause-pending : goal.returns-clause-pending

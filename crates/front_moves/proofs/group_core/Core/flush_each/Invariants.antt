@@ -1,5 +1,6 @@
 use Rattle.std.proofs.Common.{◌≡◌, ◌≤◌}
 use Rattle.front_moves.specs.Core.{face}
+use Rattle.front_moves.specs.Uploads.{uploaded}
 use Rattle.front_moves.proofs.ClosedFronts.{IsFlushedTo}
 use Rattle.front_moves.proofs.group_core.Core.flush_each.Given as goal
 
@@ -9,4 +10,5 @@ invariant-loop-place g l = record {
   group : (face l.self).group ≡ (face l.fn.self).group;
   faults : g.L.BackLink.faults l.fn.link ≤ g.L.BackLink.faults l.link;
   outside : g.L.BackLink.outside l.link ≡ g.L.BackLink.outside l.fn.link;
+  uploads : uploaded (g.L.BackLink.state l.link).mine ≤ uploaded (g.L.BackLink.state l.fn.link).mine;
 }

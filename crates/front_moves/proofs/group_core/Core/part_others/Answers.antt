@@ -25,6 +25,7 @@ loop-place-preserved g c =
             apart = apart_then (face d) c.args.index c.args.buffer place other also (apart_kept (face k) (face d) c.args.index c.args.buffer place some.flushed c.loop-place.invariant.apart) (λ ne. w.in-Ok.ensures.apart);
             faults = let low = c.loop-place.invariant.faults in let later = w.part.ensures.cause.later in omega (arith, low, later);
             outside = w.part.ensures.outside ∙ c.loop-place.invariant.outside;
+            uploads = let low = c.loop-place.invariant.uploads in let later = w.part.ensures.uploads in omega (arith, low, later);
           })
       | else-ne w ↦
           let same : other ≡ c.args.index = same_by_test other c.args.index c.ne.result c.ne.ensures w.if-ne.false in
@@ -33,5 +34,6 @@ loop-place-preserved g c =
             apart = apart_then (face k) c.args.index c.args.buffer place other at c.loop-place.invariant.apart (λ ne. absurd (ne same));
             faults = c.loop-place.invariant.faults;
             outside = c.loop-place.invariant.outside;
+            uploads = c.loop-place.invariant.uploads;
           })
     ]

@@ -1,5 +1,6 @@
 use Rattle.std.proofs.Common.{◌≡◌, ◌≤◌}
 use Rattle.front_moves.specs.Core.{face, HasFlushedSome}
+use Rattle.front_moves.specs.Uploads.{uploaded}
 use Rattle.front_moves.proofs.Preparing.{AreApart}
 use Rattle.front_moves.proofs.group_core.Core.part_others.Given as goal
 
@@ -9,4 +10,5 @@ invariant-loop-place g l = record {
   apart : AreApart (face l.self) l.fn.index l.fn.buffer l.place;
   faults : g.L.BackLink.faults l.fn.link ≤ g.L.BackLink.faults l.link;
   outside : g.L.BackLink.outside l.link ≡ g.L.BackLink.outside l.fn.link;
+  uploads : uploaded (g.L.BackLink.state l.link).mine ≤ uploaded (g.L.BackLink.state l.fn.link).mine;
 }

@@ -3,6 +3,7 @@ use Rattle.back_core.specs.Link.{Link}
 use Rattle.front_model.specs.Face.{Buffer, Face}
 use Rattle.front_moves.specs.Core.{CoreParts, face}
 use Rattle.front_moves.proofs.Waiting.{WaitedTo, learns_nothing, learns_then, used_by, waited_more}
+use Rattle.front_moves.specs.Uploads.{uploaded}
 use Rattle.front_moves.proofs.group_core.Core.wait_for_uses.Goals as goal
 use Rattle.front_moves.proofs.group_core.Core.wait_for_uses.Goals.{then-number-gt0+in-Ok, else-number-gt0}
 
@@ -54,3 +55,18 @@ loop-place-preserved g c =
 pub returns-clause-moved : goal.returns-clause-moved
 returns-clause-moved g c =
     c.waiting_comes_to.ensures.moved (face c.args.self.now) (g.L.BackLink.state c.args.link.now) (g.L.BackLink.state c.loop-place.link) c.requires.holds c.loop-place.invariant.waited.learns
+
+pub returns-in-Err-clause-uploads : goal.returns-in-Err-clause-uploads
+returns-in-Err-clause-uploads g c =
+    let s : Link = g.L.BackLink.state c.args.link.now in
+    let t : Link = g.L.BackLink.state c.loop-place.link in
+    let u : Link = g.L.BackLink.state c.wait_for.new.self in
+    let same : uploaded u.mine ≡ uploaded s.mine = c.uploads_come_to.ensures.learns s u (learns_then s t u c.loop-place.invariant.waited.learns c.in-Err.ensures.err) in
+    omega arith
+
+pub returns-clause-uploads : goal.returns-clause-uploads
+returns-clause-uploads g c =
+    let s : Link = g.L.BackLink.state c.args.link.now in
+    let t : Link = g.L.BackLink.state c.loop-place.link in
+    let same : uploaded t.mine ≡ uploaded s.mine = c.uploads_come_to.ensures.learns s t c.loop-place.invariant.waited.learns in
+    omega arith
