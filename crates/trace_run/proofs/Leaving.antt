@@ -12,10 +12,10 @@ use Rattle.back_core.specs.declared.back_event.BackEvent.{BackEvent}
 use Rattle.back_core.specs.declared.back_event.BackEvent.TheVariants as event
 use Rattle.back_core.specs.Own.{batches_of}
 use Rattle.back_core.specs.Link.{Link}
-use Rattle.back_core.specs.History.{completed, own_part, link_after, link_of, opening, outside_of}
+use Rattle.back_core.specs.History.{completed, own_part, link_after, link_of, opening}
 use Rattle.back_core.specs.Run.{IsProgress}
 use Rattle.back_core.specs.Steps.{HasGoneOn, IsIdle, IsAllGiven}
-use Rattle.trace_run.specs.Runs.{LeavesNothing, IsLeft}
+use Rattle.trace_run.specs.Runs.{LeavesNothing}
 
 -- the batches go on, and the group's own part stays
 progress_still : (e : BackEvent) → IsProgress e → (link : Link) → link_after link e ≡ link

@@ -2,7 +2,7 @@
 use Rattle.std.proofs.Common.{◌≡◌, ℕ, ◌≤◌, List, length, map, Option, Some, None, Err, refl, subst, inl}
 use Rattle.std.specs.Io.KnownBytes.{Consumes, IsAtEnd}
 use Rattle.trace_text.specs.declared.trace.ThreadPlan.{ThreadPlan}
-use Rattle.trace_text.specs.Reading.{Plan, plan, trace_of}
+use Rattle.trace_text.specs.Reading.{plan, trace_of}
 use Rattle.trace_text.specs.Traces.{Spells}
 use Rattle.trace_run.specs.Runs.{first_unbuilt}
 use Rattle.trace_run.specs.Once.{Gives, IsRefusedAt, IsRefusal}

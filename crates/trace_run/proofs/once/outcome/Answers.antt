@@ -1,4 +1,4 @@
-use Rattle.std.proofs.Common.{◌≡◌, List, map, sym, ap, ◌∙◌, subst}
+use Rattle.std.proofs.Common.{List, map, sym, ap, ◌∙◌, subst}
 use Rattle.std.specs.List.{All}
 use Rattle.trace_text.specs.declared.trace.ThreadPlan.{ThreadPlan}
 use Rattle.trace_text.specs.Reading.{plan}

@@ -1,4 +1,4 @@
-use Rattle.std.proofs.Common.{◌≡◌, false}
+use Rattle.std.proofs.Common.{false}
 use Rattle.command_line.specs.declared.command.Command.TheVariants.{Once}
 use Rattle.trace_run.proofs.once.seed_in.Goals as goal
 

@@ -1,4 +1,4 @@
-use Rattle.std.proofs.Common.{◌≡◌, sym, ap, ◌∙◌, subst, arith}
+use Rattle.std.proofs.Common.{sym, ap, ◌∙◌, subst, arith}
 use Rattle.trace_text.specs.declared.trace.Line.{Line}
 use Rattle.front_core.specs.Share.{is_built}
 use Rattle.trace_run.specs.Runs.{AreAnswersTo}
