@@ -1,4 +1,4 @@
-//! Reads a trace of OpenGL ES calls from the input, runs it on a device in memory, and writes the replies to the output.
+//! Reads a trace of OpenGL ES calls from the input, runs it on a device in memory whose order is drawn by the seed, and writes the replies to the output.
 #![tactic(auto)]
 
 #[cfg(test)]
@@ -7,8 +7,8 @@ mod tests;
 use std::process::ExitCode;
 use std::{env, io};
 use trace_io::{StdSink, StdSource};
-use trace_run::run_once;
-use vk_fakes::FakeDevice;
+use trace_run::{run_once, seed_of};
+use vk_fakes::SoftDevice;
 
 fn main(rt: HostRuntime) -> io::Result<ExitCode> {
     let mut words = Vec::new(rt.alloc());
@@ -17,7 +17,7 @@ fn main(rt: HostRuntime) -> io::Result<ExitCode> {
     }
     let mut source = StdSource::new(rt.reader());
     let mut sink = StdSink::new(io::writer(&rt));
-    let device = FakeDevice::first(rt.alloc());
+    let device = SoftDevice::seeded(rt.alloc(), seed_of(&words));
     let (status, device) = run_once(rt.alloc(), &words, &mut source, &mut sink, device);
     drop(device);
     Ok(ExitCode::from(status.number()))

@@ -1,19 +1,20 @@
 -- How a run ends, by what it has to say and what the sink took of it.
-use Rattle.std.proofs.Common.{◌≡◌, ◌≢◌, ◌⊎◌, ℕ, ◌<◌, ◌≤◌, true, false, List, ◌++◌, length, take, Option, Some, None, refl, sym, ap, ◌∙◌, subst, arith, inl, inr, length-append}
+use Rattle.std.proofs.Common.{◌≡◌, ◌≢◌, ◌⊎◌, ℕ, ◌<◌, ◌≤◌, true, false, List, ◌++◌, length, take, Result, Option, Some, None, refl, sym, ap, ◌∙◌, subst, arith, inl, inr, length-append}
 use Rattle.std.proofs.lemmas.List.{append-nil}
 use Rattle.std.specs.Io.KnownBytes.{Appends, Consumes, IsAtEnd}
 use Rattle.trace_io.specs.declared.status.Status.{Status}
 use Rattle.trace_io.specs.declared.status.Status.TheVariants.{Ok, Usage, Trace, ReadFault, WriteFault, DeviceLost, Memory}
 use Rattle.faults.specs.Faults.{Rose}
 use Rattle.vk_device.specs.declared.logged.Logged.{Logged}
-use Rattle.trace_run.specs.declared.calls.Call.{Call}
-use Rattle.trace_run.specs.declared.calls.Entry.{Entry}
-use Rattle.trace_run.specs.declared.once.Said.{Said}
-use Rattle.trace_run.specs.declared.once.Said.TheVariants as said
-use Rattle.trace_run.specs.declared.replies.Tail.TheVariants.{End, Lost}
-use Rattle.trace_run.specs.Trace.{IsTrace, IsFirstFault}
-use Rattle.trace_run.specs.Once.{SpellsOnce, Ran, Answered, WasLost, IsRefusal, Refused, IsWritten, WasCutOff, IsSaid, Says, Puts, text_of, status_of, has_text, usage_line, MayAnswer, MayRefuse, MayRefuseLong}
-use Rattle.trace_run.proofs.Form.{exclusive, first_fault_once}
+use Rattle.std.specs.declared.result.Result.TheVariants as results
+use Rattle.trace_text.specs.Reading.{Plan, Place, trace_of}
+use Rattle.trace_text.specs.Traces.{Spells}
+use Rattle.trace_text.proofs.TextLaws.{text_again}
+use Rattle.reply_text.specs.declared.history.GroupHistory.{GroupHistory}
+use Rattle.trace_run.specs.declared.saying.Said.{Said}
+use Rattle.trace_run.specs.declared.saying.Said.TheVariants as said
+use Rattle.trace_run.specs.Runs.{first_unbuilt}
+use Rattle.trace_run.specs.Once.{SpellsOnce, Gives, Ran, Answered, WasLost, IsRefusedAt, IsRefusal, Refused, IsWritten, WasCutOff, IsUnread, IsRunOf, IsSaid, Says, Puts, text_of, status_of, has_text, usage_line, MayAnswer, MayRefuse, MayRefuseLong}
 
 -- a text that was put is said
 pub puts_said : {text : List ℕ} {good : Status} {taken taken_after : Option (List ℕ)} {faults faults_after : ℕ} {status : Status} (it : Said) → Puts text good taken taken_after faults faults_after status → text ≡ text_of it → good ≡ status_of it → has_text it ≡ true → Says it taken taken_after faults faults_after status
@@ -28,10 +29,10 @@ no_silence said.Usage has (inl e) = cc
 no_silence said.Usage has (inr e) = cc
 no_silence (said.Refused line kind) has (inl e) = cc
 no_silence (said.Refused line kind) has (inr e) = cc
-no_silence (said.Replies End history) has (inl e) = cc
-no_silence (said.Replies End history) has (inr e) = cc
-no_silence (said.Replies Lost history) has (inl e) = cc
-no_silence (said.Replies Lost history) has (inr e) = cc
+no_silence (said.Replies groups) has (inl e) = cc
+no_silence (said.Replies groups) has (inr e) = cc
+no_silence (said.Lost groups) has (inl e) = cc
+no_silence (said.Lost groups) has (inr e) = cc
 no_silence said.ReadFault has e = no_yes has
 no_silence said.Memory has e = no_yes has
 
@@ -56,6 +57,40 @@ came_short : (text came : List ℕ) (left left_after : Option (List ℕ)) → le
 came_short text came left None is consumes = absurd (rw is at consumes)
 came_short text came left (Some rest) is consumes = let e : text ≡ came ++ rest = rw is at consumes in omega (arith, ap length e, length-append came rest)
 
+-- a text spells one trace at most, and where it spells one it has no fault
+one_trace : (text : List ℕ) (threads others : List Plan) → Spells text threads → Spells text others → threads ≡ others
+one_trace text threads others a b =
+    cc (sym (text_again text threads a) ∙ text_again text others b)
+
+abbrev place : ℕ → ℕ → Place
+place line kind = record { line = line; kind = kind }
+
+same_place : (x y : Place) (r : Result (List Plan) Place) → r ≡ results.Err x → r ≡ results.Err y → x ≡ y
+same_place x y r a b = cc
+
+-- a text is refused at one line and for one kind of reason
+refused_once : (text : List ℕ) (l k line kind : ℕ) → IsRefusedAt text l k → IsRefusedAt text line kind → (l ≡ line) × (k ≡ kind)
+refused_once text l k line kind (IsRefusedAt.fault a) (IsRefusedAt.fault b) =
+    let same : place l k ≡ place line kind = same_place (place l k) (place line kind) (trace_of text) a b in
+    (ap (λ (p : Place). p.line) same, ap (λ (p : Place). p.kind) same)
+refused_once text l k line kind (IsRefusedAt.fault a) (IsRefusedAt.unbuilt threads b u n) =
+    let e = sym a ∙ text_again text threads b in absurd (cc)
+refused_once text l k line kind (IsRefusedAt.unbuilt threads a t m) (IsRefusedAt.fault b) =
+    let e = sym b ∙ text_again text threads a in absurd (cc)
+refused_once text l k line kind (IsRefusedAt.unbuilt threads a t m) (IsRefusedAt.unbuilt others b u n) =
+    let same : threads ≡ others = one_trace text threads others a b in
+    let e : Some l ≡ Some line = sym t ∙ ap first_unbuilt same ∙ u in
+    (cc, m ∙ sym n)
+
+-- a text that is refused spells no trace that is served
+exclusive : (text : List ℕ) (line kind : ℕ) (threads : List Plan) → IsRefusedAt text line kind → Spells text threads → first_unbuilt threads ≡ None → ⊥
+exclusive text line kind threads (IsRefusedAt.fault a) spelled built =
+    let e = sym a ∙ text_again text threads spelled in absurd (cc)
+exclusive text line kind threads (IsRefusedAt.unbuilt others a u n) spelled built =
+    let same : threads ≡ others = one_trace text threads others spelled a in
+    let e : None ≡ Some line = sym built ∙ ap first_unbuilt same ∙ u in
+    absurd (cc)
+
 module _ (words : List (List ℕ)) (left left_after : Option (List ℕ)) (reads reads_after losses losses_after : ℕ) (journal : List Logged) (taken taken_after : Option (List ℕ)) (faults faults_after : ℕ) (status : Status) where
   abbrev So : Said → Type 0
   So it = IsSaid words left left_after reads reads_after losses losses_after journal it
@@ -74,8 +109,8 @@ module _ (words : List (List ℕ)) (left left_after : Option (List ℕ)) (reads 
   spoke s it is fault memory (Says.no_memory e same) = absurd (memory (sym is ∙ e))
 
   ok_from : (it : Said) → status_of it ≡ Ok → So it → Taken it → Answered left left_after taken taken_after journal
-  ok_from (said.Replies End history) e so a = record { history = history.items; ran = so; written = a refl }
-  ok_from (said.Replies Lost history) e so a = absurd (cc)
+  ok_from (said.Replies groups) e so a = record { groups = groups.items; ran = so; written = a refl }
+  ok_from (said.Lost groups) e so a = absurd (cc)
   ok_from said.Usage e so a = absurd (cc)
   ok_from (said.Refused line kind) e so a = absurd (cc)
   ok_from said.ReadFault e so a = absurd (cc)
@@ -86,8 +121,8 @@ module _ (words : List (List ℕ)) (left left_after : Option (List ℕ)) (reads 
 
   usage_from : (it : Said) → status_of it ≡ Usage → So it → Taken it → (¬ SpellsOnce words) × Appends taken taken_after usage_line
   usage_from said.Usage e so a = (so, a refl)
-  usage_from (said.Replies End history) e so a = absurd (cc)
-  usage_from (said.Replies Lost history) e so a = absurd (cc)
+  usage_from (said.Replies groups) e so a = absurd (cc)
+  usage_from (said.Lost groups) e so a = absurd (cc)
   usage_from (said.Refused line kind) e so a = absurd (cc)
   usage_from said.ReadFault e so a = absurd (cc)
   usage_from said.Memory e so a = absurd (cc)
@@ -100,8 +135,8 @@ module _ (words : List (List ℕ)) (left left_after : Option (List ℕ)) (reads 
       let same_line : line ≡ l = cc in
       let same_kind : kind ≡ k = cc in
       subst (λ (n : ℕ). Refused left left_after taken taken_after n k) same_line (subst (λ (n : ℕ). Refused left left_after taken taken_after line n) same_kind (record { refusal = so; written = a refl }))
-  trace_from l k (said.Replies End history) e so a = absurd (cc)
-  trace_from l k (said.Replies Lost history) e so a = absurd (cc)
+  trace_from l k (said.Replies groups) e so a = absurd (cc)
+  trace_from l k (said.Lost groups) e so a = absurd (cc)
   trace_from l k said.Usage e so a = absurd (cc)
   trace_from l k said.ReadFault e so a = absurd (cc)
   trace_from l k said.Memory e so a = absurd (cc)
@@ -111,8 +146,8 @@ module _ (words : List (List ℕ)) (left left_after : Option (List ℕ)) (reads 
 
   read_from : (it : Said) → status_of it ≡ ReadFault → So it → Rose reads reads_after
   read_from said.ReadFault e so = so
-  read_from (said.Replies End history) e so = absurd (cc)
-  read_from (said.Replies Lost history) e so = absurd (cc)
+  read_from (said.Replies groups) e so = absurd (cc)
+  read_from (said.Lost groups) e so = absurd (cc)
   read_from said.Usage e so = absurd (cc)
   read_from (said.Refused line kind) e so = absurd (cc)
   read_from said.Memory e so = absurd (cc)
@@ -121,8 +156,8 @@ module _ (words : List (List ℕ)) (left left_after : Option (List ℕ)) (reads 
   read_fault it so says is = read_from it (spoke ReadFault it is (λ e. cc) (λ e. cc) says).0 so
 
   lost_from : (it : Said) → status_of it ≡ DeviceLost → So it → Taken it → Rose losses losses_after × WasLost left left_after taken taken_after
-  lost_from (said.Replies Lost history) e so a = (so.1, record { history = history.items; ran = so.0; written = a refl })
-  lost_from (said.Replies End history) e so a = absurd (cc)
+  lost_from (said.Lost groups) e so a = (so.1, record { groups = groups.items; ran = so.0; written = a refl })
+  lost_from (said.Replies groups) e so a = absurd (cc)
   lost_from said.Usage e so a = absurd (cc)
   lost_from (said.Refused line kind) e so a = absurd (cc)
   lost_from said.ReadFault e so a = absurd (cc)
@@ -134,16 +169,16 @@ module _ (words : List (List ℕ)) (left left_after : Option (List ℕ)) (reads 
   no_write_fault : (it : Said) → status_of it ≡ WriteFault → ⊥
   no_write_fault said.Usage e = cc
   no_write_fault (said.Refused line kind) e = cc
-  no_write_fault (said.Replies End history) e = cc
-  no_write_fault (said.Replies Lost history) e = cc
+  no_write_fault (said.Replies groups) e = cc
+  no_write_fault (said.Lost groups) e = cc
   no_write_fault said.ReadFault e = cc
   no_write_fault said.Memory e = cc
 
   written_of : (it : Said) → So it → has_text it ≡ true → IsWritten words left left_after (text_of it)
   written_of said.Usage so has = IsWritten.usage so refl
   written_of (said.Refused line kind) so has = IsWritten.refusal line kind so refl
-  written_of (said.Replies End history) so has = IsWritten.replies End history.items so.ran refl
-  written_of (said.Replies Lost history) so has = IsWritten.replies Lost history.items so.0 refl
+  written_of (said.Replies groups) so has = IsWritten.replies groups.items so.ran refl
+  written_of (said.Lost groups) so has = IsWritten.lost groups.items so.0 refl
   written_of said.ReadFault so has = absurd (no_yes has)
   written_of said.Memory so has = absurd (no_yes has)
 
@@ -160,59 +195,82 @@ module _ (words : List (List ℕ)) (left left_after : Option (List ℕ)) (reads 
   any P it own fault memory (Says.no_text e h same) = subst P (sym e) own
   any P it own fault memory (Says.no_memory e same) = subst P (sym e) memory
 
-  refusal_of : (text : List ℕ) (line l k : ℕ) → left ≡ Some text → length text ≤ 67108864 → IsFirstFault text line → IsRefusal left left_after l k → (l ≡ line) × (k ≡ 10)
-  refusal_of text line l k is short fault (came, consumes, inl why) =
-      let same : came ≡ text = whole_text text came left left_after is consumes why.2 in
-      (first_fault_once text l line (subst (λ (t : List ℕ). IsFirstFault t l) same why.1) fault, why.0)
-  refusal_of text line l k is short fault (came, consumes, inr why) = absurd (omega (arith, why.2, came_short text came left left_after is consumes))
+  refusal_of : (text : List ℕ) (line kind l k : ℕ) → left ≡ Some text → length text ≤ 67108864 → IsRefusedAt text line kind → IsRefusal left left_after l k → (l ≡ line) × (k ≡ kind)
+  refusal_of text line kind l k is short why (came, consumes, inl so) =
+      let same : came ≡ text = whole_text text came left left_after is consumes so.1 in
+      refused_once text l k line kind (subst (λ (t : List ℕ). IsRefusedAt t l k) same so.0) why
+  refusal_of text line kind l k is short why (came, consumes, inr so) = absurd (omega (arith, so.2, came_short text came left left_after is consumes))
 
-  no_run : (text : List ℕ) (line : ℕ) (history : List Entry) → left ≡ Some text → IsFirstFault text line → Ran left left_after history → ⊥
-  no_run text line history is fault ran =
-      let same : ran.text ≡ text = whole_text text ran.text left left_after is ran.read ran.ended in
-      exclusive text ran.calls line fault (subst (λ (t : List ℕ). IsTrace t ran.calls) same ran.trace)
+  no_run : (text : List ℕ) (line kind : ℕ) (groups : List GroupHistory) → left ≡ Some text → IsRefusedAt text line kind → Ran left left_after groups → ⊥
+  no_run text line kind groups is why ran =
+      let same : ran.gave.text ≡ text = whole_text text ran.gave.text left left_after is ran.gave.read ran.gave.ended in
+      exclusive text line kind ran.threads why (subst (λ (t : List ℕ). Spells t ran.threads) same ran.gave.spelled) ran.gave.built
 
-  may_refuse : (it : Said) → So it → (text : List ℕ) (line : ℕ) → left ≡ Some text → length text ≤ 67108864 → SpellsOnce words → IsFirstFault text line → MayRefuse line (status_of it)
-  may_refuse said.Usage so text line is short spells fault = absurd (so spells)
-  may_refuse (said.Refused l k) so text line is short spells fault = refusal_of text line l k is short fault so
-  may_refuse (said.Replies End history) so text line is short spells fault = absurd (no_run text line history.items is fault so.ran)
-  may_refuse (said.Replies Lost history) so text line is short spells fault = absurd (no_run text line history.items is fault so.0)
-  may_refuse said.ReadFault so text line is short spells fault = tt
-  may_refuse said.Memory so text line is short spells fault = tt
+  may_refuse : (it : Said) → So it → (text : List ℕ) (line kind : ℕ) → left ≡ Some text → length text ≤ 67108864 → SpellsOnce words → IsRefusedAt text line kind → MayRefuse line kind (status_of it)
+  may_refuse said.Usage so text line kind is short spells why = absurd (so spells)
+  may_refuse (said.Refused l k) so text line kind is short spells why = refusal_of text line kind l k is short why so
+  may_refuse (said.Replies groups) so text line kind is short spells why = absurd (no_run text line kind groups.items is why so.ran)
+  may_refuse (said.Lost groups) so text line kind is short spells why = absurd (no_run text line kind groups.items is why so.0)
+  may_refuse said.ReadFault so text line kind is short spells why = tt
+  may_refuse said.Memory so text line kind is short spells why = tt
 
-  pub refused : (it : Said) → So it → Spoken it → (text : List ℕ) (line : ℕ) → left ≡ Some text → length text ≤ 67108864 → SpellsOnce words → IsFirstFault text line → MayRefuse line status
-  refused it so says text line is short spells fault = any (MayRefuse line) it (may_refuse it so text line is short spells fault) tt tt says
+  pub refused : (it : Said) → So it → Spoken it → (text : List ℕ) (line kind : ℕ) → left ≡ Some text → length text ≤ 67108864 → SpellsOnce words → IsRefusedAt text line kind → MayRefuse line kind status
+  refused it so says text line kind is short spells why = any (MayRefuse line kind) it (may_refuse it so text line kind is short spells why) tt tt says
 
   long_refusal : (text : List ℕ) (l k : ℕ) → left ≡ Some text → 67108864 < length text → IsRefusal left left_after l k → (l ≡ 0) × (k ≡ 8)
-  long_refusal text l k is long (came, consumes, inl why) = absurd (omega (arith, why.3, ap length (whole_text text came left left_after is consumes why.2)))
-  long_refusal text l k is long (came, consumes, inr why) = (why.1, why.0)
+  long_refusal text l k is long (came, consumes, inl so) = absurd (omega (arith, so.2, ap length (whole_text text came left left_after is consumes so.1)))
+  long_refusal text l k is long (came, consumes, inr so) = (so.1, so.0)
 
-  no_long_run : (text : List ℕ) (history : List Entry) → left ≡ Some text → 67108864 < length text → Ran left left_after history → ⊥
-  no_long_run text history is long ran = absurd (omega (arith, ran.short, ap length (whole_text text ran.text left left_after is ran.read ran.ended)))
+  no_long_run : (text : List ℕ) (groups : List GroupHistory) → left ≡ Some text → 67108864 < length text → Ran left left_after groups → ⊥
+  no_long_run text groups is long ran =
+      absurd (omega (arith, ran.gave.spelled.fits, ap length (whole_text text ran.gave.text left left_after is ran.gave.read ran.gave.ended)))
 
   may_refuse_long : (it : Said) → So it → (text : List ℕ) → left ≡ Some text → 67108864 < length text → SpellsOnce words → MayRefuseLong (status_of it)
   may_refuse_long said.Usage so text is long spells = absurd (so spells)
   may_refuse_long (said.Refused l k) so text is long spells = long_refusal text l k is long so
-  may_refuse_long (said.Replies End history) so text is long spells = absurd (no_long_run text history.items is long so.ran)
-  may_refuse_long (said.Replies Lost history) so text is long spells = absurd (no_long_run text history.items is long so.0)
+  may_refuse_long (said.Replies groups) so text is long spells = absurd (no_long_run text groups.items is long so.ran)
+  may_refuse_long (said.Lost groups) so text is long spells = absurd (no_long_run text groups.items is long so.0)
   may_refuse_long said.ReadFault so text is long spells = tt
   may_refuse_long said.Memory so text is long spells = tt
 
   pub too_long : (it : Said) → So it → Spoken it → (text : List ℕ) → left ≡ Some text → 67108864 < length text → SpellsOnce words → MayRefuseLong status
   too_long it so says text is long spells = any MayRefuseLong it (may_refuse_long it so text is long spells) tt tt says
 
-  no_refusal : (text : List ℕ) (calls : List Call) (l k : ℕ) → left ≡ Some text → length text ≤ 67108864 → IsTrace text calls → IsRefusal left left_after l k → ⊥
-  no_refusal text calls l k is short trace (came, consumes, inl why) =
-      let same : came ≡ text = whole_text text came left left_after is consumes why.2 in
-      exclusive text calls l (subst (λ (t : List ℕ). IsFirstFault t l) same why.1) trace
-  no_refusal text calls l k is short trace (came, consumes, inr why) = absurd (omega (arith, why.2, came_short text came left left_after is consumes))
+  no_refusal : (text : List ℕ) (threads : List Plan) (l k : ℕ) → left ≡ Some text → Spells text threads → first_unbuilt threads ≡ None → IsRefusal left left_after l k → ⊥
+  no_refusal text threads l k is spelled built (came, consumes, inl so) =
+      let same : came ≡ text = whole_text text came left left_after is consumes so.1 in
+      exclusive text l k threads (subst (λ (t : List ℕ). IsRefusedAt t l k) same so.0) spelled built
+  no_refusal text threads l k is spelled built (came, consumes, inr so) = absurd (omega (arith, so.2, spelled.fits, came_short text came left left_after is consumes))
 
-  may_answer : (it : Said) → So it → (text : List ℕ) (calls : List Call) → left ≡ Some text → length text ≤ 67108864 → SpellsOnce words → IsTrace text calls → MayAnswer (status_of it)
-  may_answer said.Usage so text calls is short spells trace = absurd (so spells)
-  may_answer (said.Refused l k) so text calls is short spells trace = absurd (no_refusal text calls l k is short trace so)
-  may_answer (said.Replies End history) so text calls is short spells trace = tt
-  may_answer (said.Replies Lost history) so text calls is short spells trace = tt
-  may_answer said.ReadFault so text calls is short spells trace = tt
-  may_answer said.Memory so text calls is short spells trace = tt
+  may_answer : (it : Said) → So it → (text : List ℕ) (threads : List Plan) → left ≡ Some text → SpellsOnce words → Spells text threads → first_unbuilt threads ≡ None → MayAnswer (status_of it)
+  may_answer said.Usage so text threads is spells spelled built = absurd (so spells)
+  may_answer (said.Refused l k) so text threads is spells spelled built = absurd (no_refusal text threads l k is spelled built so)
+  may_answer (said.Replies groups) so text threads is spells spelled built = tt
+  may_answer (said.Lost groups) so text threads is spells spelled built = tt
+  may_answer said.ReadFault so text threads is spells spelled built = tt
+  may_answer said.Memory so text threads is spells spelled built = tt
 
-  pub answered : (it : Said) → So it → Spoken it → (text : List ℕ) (calls : List Call) → left ≡ Some text → length text ≤ 67108864 → SpellsOnce words → IsTrace text calls → MayAnswer status
-  answered it so says text calls is short spells trace = any MayAnswer it (may_answer it so text calls is short spells trace) tt tt says
+  pub answered : (it : Said) → So it → Spoken it → (text : List ℕ) (threads : List Plan) → left ≡ Some text → SpellsOnce words → Spells text threads → first_unbuilt threads ≡ None → MayAnswer status
+  answered it so says text threads is spells spelled built = any MayAnswer it (may_answer it so text threads is spells spelled built) tt tt says
+
+-- what was not run, and what a run has to say
+
+pub said_unread : (words : List (List ℕ)) (left left_after : Option (List ℕ)) (reads reads_after losses losses_after : ℕ) (journal : List Logged) (it : Said) →
+    IsUnread words left left_after reads reads_after it → IsSaid words left left_after reads reads_after losses losses_after journal it
+said_unread words left left_after reads reads_after losses losses_after journal said.Usage so = so
+said_unread words left left_after reads reads_after losses losses_after journal (said.Refused line kind) so = so
+said_unread words left left_after reads reads_after losses losses_after journal (said.Replies groups) so = absurd so
+said_unread words left left_after reads reads_after losses losses_after journal (said.Lost groups) so = absurd so
+said_unread words left left_after reads reads_after losses losses_after journal said.ReadFault so = so
+said_unread words left left_after reads reads_after losses losses_after journal said.Memory so = tt
+
+pub said_run : (words : List (List ℕ)) (left left_after : Option (List ℕ)) (reads reads_after losses losses_after : ℕ) (journal : List Logged) (threads : List Plan) (it : Said) →
+    Gives left left_after threads → IsRunOf threads losses losses_after journal it → IsSaid words left left_after reads reads_after losses losses_after journal it
+said_run words left left_after reads reads_after losses losses_after journal threads said.Usage gave so = absurd so
+said_run words left left_after reads reads_after losses losses_after journal threads (said.Refused line kind) gave so = absurd so
+said_run words left left_after reads reads_after losses losses_after journal threads (said.Replies groups) gave so =
+    record { ran = record { threads = threads; gave = gave; replies = so.0 }; all = so.1; destroyed = so.2 }
+said_run words left left_after reads reads_after losses losses_after journal threads (said.Lost groups) gave so =
+    (record { threads = threads; gave = gave; replies = so.0 }, so.1)
+said_run words left left_after reads reads_after losses losses_after journal threads said.ReadFault gave so = absurd so
+said_run words left left_after reads reads_after losses losses_after journal threads said.Memory gave so = tt

@@ -1,11 +1,6 @@
-mod Numbers
-mod Hexes
-mod Lists
-mod Tables
-mod Splits
-mod Spelling
-mod Form
-mod Advance
-mod StoreLaws
-mod Sound
-mod Ends
+pub mod Threads
+pub mod Reading
+pub mod Ends
+pub mod Answering
+pub mod Leaving
+pub mod Served

@@ -1,9 +1,2 @@
-pub mod Hex
-pub mod Words
-pub mod Trace
-pub mod Reading
-pub mod Group
-pub mod Model
-pub mod Replies
-pub mod Stands
+pub mod Runs
 pub mod Once

@@ -1,23 +1,26 @@
 // The command `once`, from the words to the status.
-ghost use Rattle.std.specs.Prelude.{◌≡◌, ◌≢◌, ◌≤◌, ◌<◌, ◌↔◌, ◌⊎◌, ℕ, List, [], length, map, Some, IsTrue, IfOk};
+ghost use Rattle.std.specs.Prelude.{◌≡◌, ◌≢◌, ◌≤◌, ◌<◌, ◌⊎◌, ℕ, Bool, List, [], length, map, Some, None, false, IfOk, IfErr, MatchOption};
+ghost use Rattle.std.specs.List.{All};
 ghost use Rattle.std.specs.String.{string_bytes};
 ghost use Rattle.std.specs.Io.KnownBytes.{Appends};
 ghost use Rattle.faults.specs.Faults.{Rose};
 ghost use Rattle.trace_io.specs.declared.status.Status.{Status};
 ghost use Rattle.vk_device.specs.Journal.{IsClean};
-ghost use Rattle.trace_run.specs.declared.calls.Call.{Call};
-ghost use Rattle.trace_run.specs.Once.{SpellsOnce, Answered, WasLost, WasCutOff, MayAnswer, MayRefuse, MayRefuseLong, Refused, IsSaid, Says, Puts, told_by, usage_line, refused_text};
-ghost use Rattle.trace_run.specs.Trace.{IsTrace, IsFirstFault};
+ghost use Rattle.command_line.specs.declared.command.Command.{Command};
+ghost use Rattle.command_line.specs.Commands as commands;
+ghost use Rattle.trace_text.specs.Reading.{Plan, plan};
+ghost use Rattle.trace_text.specs.Traces.{Spells};
+ghost use Rattle.trace_run.specs.Runs.{IsSound, first_unbuilt};
+ghost use Rattle.trace_run.specs.Once.{SpellsOnce, Gives, Answered, WasLost, WasCutOff, MayAnswer, MayRefuse, MayRefuseLong, Refused, IsRefusedAt, IsSaid, IsUnread, usage_line};
 
-use crate::line::is;
-use crate::replies::push_text;
+use crate::built;
 use crate::run::run;
-use crate::words::number_of;
-use crate::{Entry, ParseStop, Tail, parse, render};
-use std::alloc::{AllocError, Global};
-use trace_io::{ReadStop, Sink, Source, Status, USAGE_LINE, read_all, write_all};
-use vk_device::Device;
-use vk_types::Stop;
+use crate::saying::{Said, say};
+use command_line::{Command, command_of};
+use std::alloc::Global;
+use trace_io::{ReadStop, Sink, Source, Status, read_all};
+use trace_text::{ParseStop, Trace, parse};
+use vk_device::{Device, devices_stay_in_order};
 
 /// The most bytes of a text.
 const LIMIT: usize = 67_108_864;
@@ -37,9 +40,9 @@ pub fn run_once<S: Source, K: Sink, D: Device>(
     ensures usage_line { result.0 ≡ Status.Usage → Appends (K.taken sink.old) (K.taken sink.new) usage_line }
     ensures served { SpellsOnce (map string_bytes words.now) → result.0 ≢ Status.Usage }
     ensures trace { (line kind : ℕ) → result.0 ≡ Status.Trace line kind → Refused (S.left source.old) (S.left source.new) (K.taken sink.old) (K.taken sink.new) line kind }
-    ensures refused { (text : List ℕ) (line : ℕ) → S.left source.old ≡ Some text → length text ≤ 67108864 → SpellsOnce (map string_bytes words.now) → IsFirstFault text line → MayRefuse line result.0 }
+    ensures refused { (text : List ℕ) (line kind : ℕ) → S.left source.old ≡ Some text → length text ≤ 67108864 → SpellsOnce (map string_bytes words.now) → IsRefusedAt text line kind → MayRefuse line kind result.0 }
     ensures too_long { (text : List ℕ) → S.left source.old ≡ Some text → 67108864 < length text → SpellsOnce (map string_bytes words.now) → MayRefuseLong result.0 }
-    ensures answered { (text : List ℕ) (calls : List Call) → S.left source.old ≡ Some text → length text ≤ 67108864 → SpellsOnce (map string_bytes words.now) → IsTrace text calls → MayAnswer result.0 }
+    ensures answered { (text : List ℕ) (threads : List Plan) → S.left source.old ≡ Some text → SpellsOnce (map string_bytes words.now) → Spells text threads → first_unbuilt threads ≡ None → MayAnswer result.0 }
     ensures read_fault { result.0 ≡ Status.ReadFault → Rose (S.faults source.old) (S.faults source.new) }
     ensures write_fault { result.0 ≡ Status.WriteFault → Rose (K.faults sink.old) (K.faults sink.new) }
     ensures cut_off { result.0 ≡ Status.WriteFault → WasCutOff (map string_bytes words.now) (S.left source.old) (S.left source.new) (K.taken sink.old) (K.taken sink.new) }
@@ -48,130 +51,75 @@ pub fn run_once<S: Source, K: Sink, D: Device>(
     ensures silent { (result.0 ≡ Status.ReadFault) ⊎ (result.0 ≡ Status.Memory) → K.taken sink.new ≡ K.taken sink.old }
     ensures clean { IsClean (D.journal result.1) }
 {
-    let mut device = device;
-    let said = outcome(alloc, words, source, &mut device);
+    let (said, device) = outcome(alloc, words, source, device);
     let status = say(alloc, sink, &said);
     (status, device)
-}
-
-// What a run has to say.
-#[derive(Debug, Drop)]
-enum Said {
-    Usage,
-    Refused { line: u32, kind: u8 },
-    Replies { tail: Tail, history: Vec<Entry> },
-    ReadFault,
-    Memory,
 }
 
 fn outcome<S: Source, D: Device>(
     alloc: Global,
     words: &[String],
     source: &mut S,
-    device: &mut D,
-) -> Said
-    requires { D.journal device.old ≡ [] }
-    ensures said { IsSaid (map string_bytes words.now) (S.left source.old) (S.left source.new) (S.faults source.old) (S.faults source.new) (D.faults device.old) (D.faults device.new) (D.journal device.new) result }
-    ensures clean { IsClean (D.journal device.new) }
+    device: D,
+) -> (Said, D)
+    requires { D.journal device ≡ [] }
+    ensures said { IsSaid (map string_bytes words.now) (S.left source.old) (S.left source.new) (S.faults source.old) (S.faults source.new) (D.faults device) (D.faults result.1) (D.journal result.1) result.0 }
+    ensures clean { IsClean (D.journal result.1) }
 {
-    if !is_once(words) {
-        return Said::Usage;
+    devices_stay_in_order::<D>();
+    match trace_in(alloc, words, source) {
+        Ok(trace) => run(alloc, device, &trace.threads),
+        Err(said) => (said, device),
+    }
+}
+
+// The trace that is to be run, or what there is to say in its place.
+fn trace_in<S: Source>(alloc: Global, words: &[String], source: &mut S) -> Result<Trace, Said>
+    ensures gives { IfOk result (λ trace. Gives (S.left source.old) (S.left source.new) (map plan trace.threads.items)) }
+    ensures sound { IfOk result (λ trace. All IsSound (map plan trace.threads.items)) }
+    ensures unread { IfErr result (λ said. IsUnread (map string_bytes words.now) (S.left source.old) (S.left source.new) (S.faults source.old) (S.faults source.new) said) }
+{
+    if seed_in(words).is_none() {
+        return Err(Said::Usage);
     }
     let text = match read_all(alloc, source, LIMIT) {
         Ok(text) => text,
-        Err(ReadStop::TooLong) => return Said::Refused { line: 0, kind: 8 },
-        Err(ReadStop::Failed) => return Said::ReadFault,
-        Err(ReadStop::Memory) => return Said::Memory,
+        Err(ReadStop::TooLong) => return Err(Said::Refused { line: 0, kind: 8 }),
+        Err(ReadStop::Failed) => return Err(Said::ReadFault),
+        Err(ReadStop::Memory) => return Err(Said::Memory),
     };
-    let calls = match parse(alloc, &text) {
-        Ok(calls) => calls,
-        Err(ParseStop::Fault { line, kind }) => return Said::Refused { line, kind },
-        Err(ParseStop::Memory) => return Said::Memory,
+    let trace = match parse(alloc, &text) {
+        Ok(trace) => trace,
+        Err(ParseStop::Fault { line, kind }) => return Err(Said::Refused { line, kind }),
+        Err(ParseStop::Memory) => return Err(Said::Memory),
     };
-    let mut history = Vec::new(alloc);
-    match run(alloc, device, &calls, &mut history) {
-        Ok(()) => Said::Replies {
-            tail: Tail::End,
-            history,
-        },
-        Err(Stop::Lost) => Said::Replies {
-            tail: Tail::Lost,
-            history,
-        },
-        Err(Stop::Memory) => Said::Memory,
+    match built::first_unbuilt(&trace.threads) {
+        Some(line) => Err(Said::Refused { line, kind: 10 }),
+        None => Ok(trace),
     }
 }
 
-// Whether the words are those of the command.
-fn is_once(words: &[String]) -> bool
-    ensures { IsTrue result ↔ SpellsOnce (map string_bytes words.now) }
+// The seed of the command, where the words are those of one that is served.
+fn seed_in(words: &[String]) -> Option<u64>
+    ensures { MatchOption result (¬ SpellsOnce (map string_bytes words.now)) (λ seed. commands.Spells (map string_bytes words.now) (Command.Once seed false)) }
 {
-    match words {
-        [once, option, seed] => {
-            is(once.as_bytes(), "once")
-                && is(option.as_bytes(), "--seed")
-                && number_of(seed.as_bytes()).is_some()
-        }
-        _ => false,
+    match command_of(words) {
+        Some(Command::Once { seed, summary }) => { if summary { None } else { Some(seed) } }
+        Some(Command::Threads { .. }) => None,
+        Some(Command::Gen { .. }) => None,
+        None => None,
     }
 }
 
-// Writes what a run has to say.
-fn say<K: Sink>(alloc: Global, sink: &mut K, said: &Said) -> Status
-    ensures { Says said.now (K.taken sink.old) (K.taken sink.new) (K.faults sink.old) (K.faults sink.new) result }
+/// The number N of the words of a command `once --seed N`, with a summary or without, and 0 of any others.
+pub fn seed_of(words: &[String]) -> u64
+    ensures once { (seed : ℕ) (summary : Bool) → commands.Spells (map string_bytes words.now) (Command.Once seed summary) → result ≡ seed }
+    ensures other { ((seed : ℕ) (summary : Bool) → ¬ commands.Spells (map string_bytes words.now) (Command.Once seed summary)) → result ≡ 0 }
 {
-    match said {
-        Said::Usage => put(sink, USAGE_LINE.as_bytes(), Status::Usage),
-        Said::Refused { line, kind } => match refusal(alloc, *line, *kind) {
-            Ok(text) => put(
-                sink,
-                &text,
-                Status::Trace {
-                    line: *line,
-                    kind: *kind,
-                },
-            ),
-            Err(_) => Status::Memory,
-        },
-        Said::Replies { tail, history } => match render(alloc, *tail, history) {
-            Ok(text) => put(sink, &text, told(*tail)),
-            Err(_) => Status::Memory,
-        },
-        Said::ReadFault => Status::ReadFault,
-        Said::Memory => Status::Memory,
+    match command_of(words) {
+        Some(Command::Once { seed, .. }) => seed,
+        Some(Command::Threads { .. }) => 0,
+        Some(Command::Gen { .. }) => 0,
+        None => 0,
     }
-}
-
-fn told(tail: Tail) -> Status
-    ensures { result ≡ told_by tail }
-{
-    match tail {
-        Tail::End => Status::Ok,
-        Tail::Lost => Status::DeviceLost,
-    }
-}
-
-// Writes a text, and answers this status where all of it was taken.
-fn put<K: Sink>(sink: &mut K, text: &[u8], status: Status) -> Status
-    ensures { Puts text.now status (K.taken sink.old) (K.taken sink.new) (K.faults sink.old) (K.faults sink.new) result }
-{
-    match write_all(sink, text) {
-        Ok(()) => status,
-        Err(_) => Status::WriteFault,
-    }
-}
-
-#[tactic(auto, unfolding(crate::specs::Once::refused_text))]
-fn refusal(alloc: Global, line: u32, kind: u8) -> Result<Vec<u8>, AllocError>
-    ensures { IfOk result (λ text. text.items ≡ refused_text line kind) }
-{
-    let line = line.to_string(alloc)?;
-    let kind = kind.to_string(alloc)?;
-    let mut text = Vec::new(alloc);
-    push_text(&mut text, "angle-reply 1\nrefused ")?;
-    push_text(&mut text, line.as_str())?;
-    push_text(&mut text, " ")?;
-    push_text(&mut text, kind.as_str())?;
-    push_text(&mut text, "\n")?;
-    Ok(text)
 }

@@ -1,145 +1,175 @@
-// The calls of a trace, carried out on a device.
-ghost use Rattle.std.specs.Prelude.{◌≡◌, ◌+◌, ◌≤◌, true, ℕ, [], ◌∷◌, ◌++◌, length, take, None, IfOk, OnOk, OnErr};
+// The calls of a trace, answered over a device.
+ghost use Rattle.std.specs.Prelude.{◌≡◌, ◌<◌, ℕ, [], ◌∷◌, length, map, None, IsOk, OnOk, OnErr};
+ghost use Rattle.std.specs.List.{All};
 ghost use Rattle.vk_device.specs.Faults.{HasCause};
 ghost use Rattle.vk_device.specs.Journal.{kind_of, IsClean};
-ghost use Rattle.trace_run.specs.Group.{is_allowed, group_after};
-ghost use Rattle.trace_run.specs.Model.{Answers, IsSound, IsLegal, AreAllowed, contents_after, opening_calls, opening_history};
-ghost use Rattle.trace_run.specs.Stands.{Holds, Stands, AreEntriesOf, held_in, state_of};
+ghost use Rattle.gl_model.specs.Sizes.{HasItsData};
+ghost use Rattle.back_core.specs.Run.{journal_of};
+ghost use Rattle.front_model.specs.Stands.{Owns};
+ghost use Rattle.front_moves.specs.Core.{face};
+ghost use Rattle.front_moves.specs.Ending.{HasClosed};
+ghost use Rattle.front_core.specs.Front.{FrontStands};
+ghost use Rattle.trace_text.specs.Reading.{plan};
+ghost use Rattle.trace_run.specs.Runs.{IsSound, AreAnswersTo, IsServed, IsLeft, LeavesNothing, first_unbuilt, unbuilt_line};
+ghost use Rattle.trace_run.specs.Once.{IsRunOf};
 
-use crate::stores::{Stores, make_store};
-use crate::{Call, Entry, GroupState, Reply};
-use std::alloc::{AllocError, Global};
-use vk_device::Device;
+use crate::saying::Said;
+use back_core::{Back, BackLink, Direct, calls_stay_inside, what_a_group_sees};
+use front_core::Front;
+use gl_calls::Entry;
+use reply_text::GroupHistory;
+use std::alloc::Global;
+use trace_text::{Line, ThreadPlan};
+use vk_device::{Device, devices_stay_in_order};
 use vk_types::Stop;
 
-/// Answers the calls of a trace in order, behind those that open it, and destroys every object. Also after a stop the
-/// history has what was answered.
-pub fn run<D: Device>(
-    alloc: Global,
-    device: &mut D,
-    calls: &[Call],
-    history: &mut Vec<Entry>,
-) -> Result<(), Stop>
-    requires empty { D.journal device.old ≡ [] }
-    requires fresh { history.old.items ≡ [] }
-    requires few { length calls.now ≤ 67108864 }
-    requires allowed { AreAllowed calls.now }
-    ensures legal { IsLegal history.new.items }
-    ensures entries { AreEntriesOf 4 (take (length history.new.items) (opening_calls ++ calls.now)) history.new.items }
-    ensures all { OnOk result (length history.new.items ≡ length calls.now + 2) }
-    ensures destroyed { OnOk result ((id : ℕ) → kind_of (D.journal device.new) id ≡ None) }
-    ensures clean { IsClean (D.journal device.new) }
-    ensures cause { HasCause (D.faults device.old) (D.faults device.new) result }
+/// Runs a trace on a device that did nothing.
+pub(crate) fn run<D: Device>(alloc: Global, device: D, threads: &[ThreadPlan]) -> (Said, D)
+    requires empty { D.journal device ≡ [] }
+    requires built { first_unbuilt (map plan threads.now) ≡ None }
+    requires sound { All IsSound (map plan threads.now) }
+    ensures said { IsRunOf (map plan threads.now) (D.faults device) (D.faults result.1) (D.journal result.1) result.0 }
+    ensures clean { IsClean (D.journal result.1) }
 {
-    let mut stores = Stores::new(alloc);
-    match answer_all(alloc, device, &mut stores, calls, history) {
-        Ok(()) => stores.destroy_all(device),
-        Err(stop) => {
-            stores.abandon_all(device);
-            Err(stop)
+    devices_stay_in_order::<D>();
+    match threads {
+        [] => {
+            let groups = Vec::new(alloc);
+            (Said::Replies { groups }, device)
         }
+        [thread, ..] => run_thread(alloc, device, thread),
     }
 }
 
-fn answer_all<D: Device>(
-    alloc: Global,
-    device: &mut D,
-    stores: &mut Stores,
-    calls: &[Call],
-    history: &mut Vec<Entry>,
-) -> Result<(), Stop>
-    requires fresh { history.old.items ≡ [] }
-    requires few { length calls.now ≤ 67108864 }
-    requires allowed { AreAllowed calls.now }
-    requires stands { Stands (D.journal device.old) (D.bytes_of device.old) stores.old (λ _. []) }
-    ensures legal { IsLegal history.new.items }
-    ensures entries { AreEntriesOf 4 (take (length history.new.items) (opening_calls ++ calls.now)) history.new.items }
-    ensures all { OnOk result (length history.new.items ≡ length calls.now + 2) }
-    ensures holds { OnOk result (Holds (D.journal device.new) (held_in stores.new)) }
-    ensures clean { IsClean (D.journal device.new) }
-    ensures cause { HasCause (D.faults device.old) (D.faults device.new) result }
+fn run_thread<D: Device>(alloc: Global, device: D, thread: &ThreadPlan) -> (Said, D)
+    requires empty { D.journal device ≡ [] }
+    requires built { unbuilt_line thread.now.lines.items ≡ None }
+    requires sound { IsSound (plan thread.now) }
+    ensures said { IsRunOf (plan thread.now ∷ []) (D.faults device) (D.faults result.1) (D.journal result.1) result.0 }
+    ensures clean { IsClean (D.journal result.1) }
 {
-    let mut group = GroupState::ready(alloc);
-    open(history)?;
-    for (k, call) in calls.iter().enumerate() {
-        let reply = answer(alloc, device, stores, &group, history, call)?;
-        let call = call.copy(alloc)?;
-        note(
-            &mut group,
-            history,
-            Entry {
-                line: 6 + k as u32,
-                call,
-                reply,
-            },
-        )?;
+    devices_stay_in_order::<D>();
+    let mut groups = Vec::new(alloc);
+    if groups.reserve(1).is_err() {
+        return (Said::Memory, device);
     }
-    Ok(())
-}
-
-// Begins a history with the calls that open every trace.
-fn open(history: &mut Vec<Entry>) -> Result<(), AllocError>
-    ensures ok { OnOk result (history.new.items ≡ history.old.items ++ opening_history) }
-    ensures err { OnErr result (history.new.items ≡ history.old.items) }
-{
-    history.reserve(2)?;
-    history.push_reserved(Entry {
-        line: 4,
-        call: Call::CreateContext { number: 1 },
-        reply: Reply::Done,
+    let (answer, entries, device) = serve(alloc, device, thread.group, &thread.lines);
+    groups.push_reserved(GroupHistory {
+        group: thread.group,
+        entries,
     });
-    history.push_reserved(Entry {
-        line: 5,
-        call: Call::MakeCurrent { number: 1 },
-        reply: Reply::Done,
-    });
-    Ok(())
-}
-
-// Takes in an entry.
-fn note(group: &mut GroupState, history: &mut Vec<Entry>, entry: Entry) -> Result<(), AllocError>
-    ensures group { OnOk result (group.new ≡ group_after group.old entry.call) }
-    ensures ok { OnOk result (history.new.items ≡ history.old.items ++ entry ∷ []) }
-    ensures err { OnErr result (history.new.items ≡ history.old.items) }
-{
-    group.apply(&entry.call)?;
-    history.push(entry)?;
-    Ok(())
-}
-
-// Answers a call in the state that a history leaves.
-fn answer<D: Device>(
-    alloc: Global,
-    device: &mut D,
-    stores: &mut Stores,
-    group: &GroupState,
-    history: &[Entry],
-    call: &Call,
-) -> Result<Reply, Stop>
-    requires state { group.now ≡ (state_of history.now).group }
-    requires sound { IsSound (state_of history.now) }
-    requires allowed { is_allowed group.now call.now ≡ true }
-    requires stands { Stands (D.journal device.old) (D.bytes_of device.old) stores.old (state_of history.now).contents }
-    ensures reply { IfOk result (Answers (state_of history.now) call.now) }
-    ensures stands { OnOk result (Stands (D.journal device.new) (D.bytes_of device.new) stores.new (contents_after (state_of history.now) call.now)) }
-    ensures clean { IsClean (D.journal device.new) }
-    ensures cause { HasCause (D.faults device.old) (D.faults device.new) result }
-{
-    match call {
-        Call::CreateContext { .. } => Ok(Reply::Done),
-        Call::MakeCurrent { .. } => Ok(Reply::Done),
-        Call::Bind { .. } => Ok(Reply::Done),
-        Call::Data { target, bytes, .. } => {
-            let handle = make_store(device, bytes.as_slice())?;
-            stores.put(device, group.name_of(*target), handle)?;
-            Ok(Reply::Done)
-        }
-        Call::Map { .. } => Ok(Reply::Done),
-        Call::Read { target, at, len } => {
-            let start = group.map_start(*target);
-            let bytes = stores.read(alloc, device, group.name_of(*target), start + *at, *len)?;
-            Ok(Reply::Fetched(bytes))
-        }
-        Call::Unmap { .. } => Ok(Reply::True),
+    match answer {
+        Ok(()) => (Said::Replies { groups }, device),
+        Err(Stop::Lost) => (Said::Lost { groups }, device),
+        Err(Stop::Memory) => (Said::Memory, device),
     }
+}
+
+// Answers the lines of a thread of this group, and destroys every object.
+fn serve<D: Device>(
+    alloc: Global,
+    device: D,
+    group: u8,
+    lines: &[Line],
+) -> (Result<(), Stop>, Vec<Entry>, D)
+    requires empty { D.journal device ≡ [] }
+    requires low { group < 8 }
+    requires served { IsServed lines.now }
+    ensures answers { AreAnswersTo lines.now result.1.items }
+    ensures all { OnOk result.0 (length result.1.items ≡ length lines.now) }
+    ensures destroyed { OnOk result.0 ((id : ℕ) → kind_of (D.journal result.2) id ≡ None) }
+    ensures cause { HasCause (D.faults device) (D.faults result.2) result.0 }
+    ensures clean { IsClean (D.journal result.2) }
+{
+    devices_stay_in_order::<D>();
+    what_a_group_sees();
+    calls_stay_inside();
+    let back = match Back::new(alloc, device) {
+        Ok(back) => back,
+        Err(device) => return (Err(Stop::Memory), Vec::new(alloc), device),
+    };
+    let front = match Front::new(alloc, group, &[0]) {
+        Ok(front) => front,
+        Err(_) => return (Err(Stop::Memory), Vec::new(alloc), back.finish()),
+    };
+    let mut link = Direct::new(back, group);
+    let (answer, entries) = answer_lines(front, &mut link, lines);
+    let mut back = link.into_back();
+    let answer = end(&mut back, answer);
+    (answer, entries, back.finish())
+}
+
+// Where all lines were answered, has every batch retired, and destroys all that was given.
+fn end<D: Device>(back: &mut Back<D>, answer: Result<(), Stop>) -> Result<(), Stop>
+    requires left { OnOk answer (IsLeft back.old.history) }
+    ensures answered { OnOk result (IsOk answer) }
+    ensures destroyed { OnOk result ((id : ℕ) → kind_of (journal_of back.new.history) id ≡ None) }
+    ensures cause { (first : ℕ) → HasCause first (D.faults back.old.device) answer → HasCause first (D.faults back.new.device) result }
+{
+    calls_stay_inside();
+    answer?;
+    back.settle_all()?;
+    back.clean_all()?;
+    Ok(())
+}
+
+// Answers the lines in order, and ends the front.
+fn answer_lines<L: BackLink>(
+    front: Front,
+    link: &mut L,
+    lines: &[Line],
+) -> (Result<(), Stop>, Vec<Entry>)
+    requires stands { FrontStands front (L.state link.old) }
+    requires threads { front.threads ≡ 0 ∷ [] }
+    requires empty { front.history ≡ [] }
+    requires served { IsServed lines.now }
+    ensures answers { AreAnswersTo lines.now result.1.items }
+    ensures all { OnOk result.0 (length result.1.items ≡ length lines.now) }
+    ensures left { OnOk result.0 (LeavesNothing (L.state link.new)) }
+    ensures cause { HasCause (L.faults link.old) (L.faults link.new) result.0 }
+    ensures outside { L.outside link.new ≡ L.outside link.old }
+{
+    let mut front = front;
+    let answer = answer_and_close(&mut front, link, lines);
+    let entries = front.abandon(link);
+    (answer, entries)
+}
+
+// Answers the lines in order, and closes the front.
+fn answer_and_close<L: BackLink>(
+    front: &mut Front,
+    link: &mut L,
+    lines: &[Line],
+) -> Result<(), Stop>
+    requires stands { FrontStands front.old (L.state link.old) }
+    requires threads { front.old.threads ≡ 0 ∷ [] }
+    requires empty { front.old.history ≡ [] }
+    requires served { IsServed lines.now }
+    ensures answers { AreAnswersTo lines.now front.new.history }
+    ensures all { OnOk result (length front.new.history ≡ length lines.now) }
+    ensures closed { OnOk result (HasClosed (face front.new.core) (L.state link.new)) }
+    ensures owns { Owns (face front.new.core).objects (L.state link.new) }
+    ensures cause { HasCause (L.faults link.old) (L.faults link.new) result }
+    ensures outside { L.outside link.new ≡ L.outside link.old }
+{
+    answer_all(front, link, lines)?;
+    front.close(link)
+}
+
+fn answer_all<L: BackLink>(front: &mut Front, link: &mut L, lines: &[Line]) -> Result<(), Stop>
+    requires stands { FrontStands front.old (L.state link.old) }
+    requires threads { front.old.threads ≡ 0 ∷ [] }
+    requires empty { front.old.history ≡ [] }
+    requires served { IsServed lines.now }
+    ensures answers { AreAnswersTo lines.now front.new.history }
+    ensures all { OnOk result (length front.new.history ≡ length lines.now) }
+    ensures stands { OnOk result (FrontStands front.new (L.state link.new)) }
+    ensures owns { OnErr result (Owns (face front.new.core).objects (L.state link.new)) }
+    ensures cause { HasCause (L.faults link.old) (L.faults link.new) result }
+    ensures outside { L.outside link.new ≡ L.outside link.old }
+{
+    for line in lines {
+        front.call(link, 0, line.number, &line.call)?;
+    }
+    Ok(())
 }

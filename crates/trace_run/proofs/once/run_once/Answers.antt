@@ -2,43 +2,43 @@ use Rattle.trace_run.proofs.Ends.{ok, usage, trace, refused, too_long, answered,
 use Rattle.trace_run.proofs.once.run_once.Goals as goal
 
 pub returns-clause-ok : goal.returns-clause-ok
-returns-clause-ok g c = ok _ _ _ _ _ _ _ _ _ _ _ _ _ c.outcome-said.result c.outcome-said.ensures.said c.say-status.ensures
+returns-clause-ok g c = ok _ _ _ _ _ _ _ _ _ _ _ _ _ c.outcome-said.result.0 c.outcome-said.ensures.said c.say-status.ensures
 
 pub returns-clause-usage : goal.returns-clause-usage
-returns-clause-usage g c = λ is. (usage _ _ _ _ _ _ _ _ _ _ _ _ _ c.outcome-said.result c.outcome-said.ensures.said c.say-status.ensures is).0
+returns-clause-usage g c = λ is. (usage _ _ _ _ _ _ _ _ _ _ _ _ _ c.outcome-said.result.0 c.outcome-said.ensures.said c.say-status.ensures is).0
 
 pub returns-clause-usage_line : goal.returns-clause-usage_line
-returns-clause-usage_line g c = λ is. (usage _ _ _ _ _ _ _ _ _ _ _ _ _ c.outcome-said.result c.outcome-said.ensures.said c.say-status.ensures is).1
+returns-clause-usage_line g c = λ is. (usage _ _ _ _ _ _ _ _ _ _ _ _ _ c.outcome-said.result.0 c.outcome-said.ensures.said c.say-status.ensures is).1
 
 pub returns-clause-trace : goal.returns-clause-trace
-returns-clause-trace g c = trace _ _ _ _ _ _ _ _ _ _ _ _ _ c.outcome-said.result c.outcome-said.ensures.said c.say-status.ensures
+returns-clause-trace g c = trace _ _ _ _ _ _ _ _ _ _ _ _ _ c.outcome-said.result.0 c.outcome-said.ensures.said c.say-status.ensures
 
 pub returns-clause-refused : goal.returns-clause-refused
-returns-clause-refused g c = refused _ _ _ _ _ _ _ _ _ _ _ _ _ c.outcome-said.result c.outcome-said.ensures.said c.say-status.ensures
+returns-clause-refused g c = refused _ _ _ _ _ _ _ _ _ _ _ _ _ c.outcome-said.result.0 c.outcome-said.ensures.said c.say-status.ensures
 
 pub returns-clause-too_long : goal.returns-clause-too_long
-returns-clause-too_long g c = too_long _ _ _ _ _ _ _ _ _ _ _ _ _ c.outcome-said.result c.outcome-said.ensures.said c.say-status.ensures
+returns-clause-too_long g c = too_long _ _ _ _ _ _ _ _ _ _ _ _ _ c.outcome-said.result.0 c.outcome-said.ensures.said c.say-status.ensures
 
 pub returns-clause-answered : goal.returns-clause-answered
-returns-clause-answered g c = answered _ _ _ _ _ _ _ _ _ _ _ _ _ c.outcome-said.result c.outcome-said.ensures.said c.say-status.ensures
+returns-clause-answered g c = answered _ _ _ _ _ _ _ _ _ _ _ _ _ c.outcome-said.result.0 c.outcome-said.ensures.said c.say-status.ensures
 
 pub returns-clause-read_fault : goal.returns-clause-read_fault
-returns-clause-read_fault g c = read_fault _ _ _ _ _ _ _ _ _ _ _ _ _ c.outcome-said.result c.outcome-said.ensures.said c.say-status.ensures
+returns-clause-read_fault g c = read_fault _ _ _ _ _ _ _ _ _ _ _ _ _ c.outcome-said.result.0 c.outcome-said.ensures.said c.say-status.ensures
 
 pub returns-clause-write_fault : goal.returns-clause-write_fault
-returns-clause-write_fault g c = λ is. (cut_off _ _ _ _ _ _ _ _ _ _ _ _ _ c.outcome-said.result c.outcome-said.ensures.said c.say-status.ensures is).0
+returns-clause-write_fault g c = λ is. (cut_off _ _ _ _ _ _ _ _ _ _ _ _ _ c.outcome-said.result.0 c.outcome-said.ensures.said c.say-status.ensures is).0
 
 pub returns-clause-cut_off : goal.returns-clause-cut_off
-returns-clause-cut_off g c = λ is. (cut_off _ _ _ _ _ _ _ _ _ _ _ _ _ c.outcome-said.result c.outcome-said.ensures.said c.say-status.ensures is).1
+returns-clause-cut_off g c = λ is. (cut_off _ _ _ _ _ _ _ _ _ _ _ _ _ c.outcome-said.result.0 c.outcome-said.ensures.said c.say-status.ensures is).1
 
 pub returns-clause-lost : goal.returns-clause-lost
-returns-clause-lost g c = λ is. (lost _ _ _ _ _ _ _ _ _ _ _ _ _ c.outcome-said.result c.outcome-said.ensures.said c.say-status.ensures is).0
+returns-clause-lost g c = λ is. (lost _ _ _ _ _ _ _ _ _ _ _ _ _ c.outcome-said.result.0 c.outcome-said.ensures.said c.say-status.ensures is).0
 
 pub returns-clause-lost_text : goal.returns-clause-lost_text
-returns-clause-lost_text g c = λ is. (lost _ _ _ _ _ _ _ _ _ _ _ _ _ c.outcome-said.result c.outcome-said.ensures.said c.say-status.ensures is).1
+returns-clause-lost_text g c = λ is. (lost _ _ _ _ _ _ _ _ _ _ _ _ _ c.outcome-said.result.0 c.outcome-said.ensures.said c.say-status.ensures is).1
 
 pub returns-clause-silent : goal.returns-clause-silent
-returns-clause-silent g c = silent c.outcome-said.result c.say-status.ensures
+returns-clause-silent g c = silent c.outcome-said.result.0 c.say-status.ensures
 
 pub returns-clause-served : goal.returns-clause-served
-returns-clause-served g c = λ spells is. (usage _ _ _ _ _ _ _ _ _ _ _ _ _ c.outcome-said.result c.outcome-said.ensures.said c.say-status.ensures is).0 spells
+returns-clause-served g c = λ spells is. (usage _ _ _ _ _ _ _ _ _ _ _ _ _ c.outcome-said.result.0 c.outcome-said.ensures.said c.say-status.ensures is).0 spells
