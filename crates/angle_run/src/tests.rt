@@ -1,5 +1,5 @@
 // Worked traces on devices of many orders, texts that are refused, and sources, sinks and devices that fail.
-mod faults;
+mod failures;
 mod rows;
 mod running;
 mod texts;
