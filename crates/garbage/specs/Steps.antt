@@ -1,5 +1,5 @@
 -- A garbage list as its two parts.
-use Rattle.std.specs.Prelude.{◌≡◌, ℕ, ◌+◌, ◌-◌, ◌≤◌, min, List, ◌++◌}
+use Rattle.std.specs.Prelude.{◌≡◌, ℕ, ◌+◌, ◌≤◌, min, List, ◌++◌}
 use Rattle.std.specs.VecDeque.{deque_len, deque_capacity}
 use Rattle.garbage.specs.declared.entry.Garbage.{Garbage}
 use Rattle.garbage.specs.declared.turning.Turning.{Turning}
@@ -15,10 +15,6 @@ count t = deque_len t.passed + deque_len t.coming
 -- each part has room for all entries and so many more
 abbrev pub HasRoom : Turning → ℕ → Type 0
 HasRoom t more = (count t + more ≤ deque_capacity t.passed) × (count t + more ≤ deque_capacity t.coming)
-
--- so many more entries fit
-abbrev pub room : Turning → ℕ
-room t = min (deque_capacity t.passed) (deque_capacity t.coming) - count t
 
 -- the same entries in the same room, divided elsewhere
 pub record OnlyTurns (old : Turning) (new : Turning) : Type 0 where

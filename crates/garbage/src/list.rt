@@ -13,16 +13,18 @@ use std::marker::Model;
 #[derive(Debug)]
 pub struct GarbageList {
     turning: Turning,
+    // How many more entries can be put without memory.
+    promised: usize,
 }
 
 impl Model for GarbageList {
-    ghost use Rattle.garbage.specs.Steps.{GarbageAndRoom, in_order, room, HasRoom};
+    ghost use Rattle.garbage.specs.Steps.{GarbageAndRoom, in_order, HasRoom};
 
     ghost Value = { GarbageAndRoom };
 
-    ghost view = { λ g. record { items = in_order g.turning; room = room g.turning } };
+    ghost view = { λ g. record { items = in_order g.turning; room = g.promised } };
 
-    ghost invariant = { λ g. HasRoom g.turning 0 };
+    ghost invariant = { λ g. HasRoom g.turning g.promised };
 }
 
 impl GarbageList {
@@ -35,6 +37,7 @@ impl GarbageList {
                 passed: VecDeque::new(alloc),
                 coming: VecDeque::new(alloc),
             },
+            promised: 0,
         }
     }
 
@@ -46,14 +49,10 @@ impl GarbageList {
     {
         let passed = self.turning.passed.len();
         let coming = self.turning.coming.len();
-        let fit = self
-            .turning
-            .passed
-            .capacity()
-            .min(self.turning.coming.capacity())
-            + 1;
+        let fit = passed + coming + self.promised + 1;
         self.turning.passed.reserve(fit - passed)?;
         self.turning.coming.reserve(fit - coming)?;
+        self.promised += 1;
         Ok(())
     }
 
@@ -64,6 +63,7 @@ impl GarbageList {
         ensures room { self.old.room ≤ self.new.room + 1 }
     {
         put_back(&mut self.turning.coming, item);
+        self.promised -= 1;
     }
 
     /// Takes out the first covered entry at or after the place `from`, and gives its place; `None` exactly where no entry
@@ -102,7 +102,10 @@ impl GarbageList {
     pub fn destroy_empty(self)
         requires { length self.items ≡ 0 }
     {
-        let GarbageList { turning } = self;
+        let GarbageList {
+            turning,
+            promised: _,
+        } = self;
         let Turning { passed, coming } = turning;
         passed.destroy_empty();
         coming.destroy_empty();
