@@ -8,7 +8,7 @@ OPENING = b"angle-trace 1\nthread 0 group 0\nbegin\n0 ecreate 1\n0 ecurrent 1\n"
 
 
 def calls(count):
-    """Calls on buffers of 8 bytes, with 100,000 names."""
+    """Calls on buffers of 8 bytes, each time of another name."""
     yield OPENING
     for i in range(count // 5):
         name = 1 + (i * 7919) % 100000
@@ -49,14 +49,14 @@ def one_store(size):
     yield b"\n0 bmap copy_read 0 %d r\n0 mread copy_read 0 %d\n0 bunmap copy_read\nend\n" % (size, size)
 
 
+# a thread makes at most 65,536 calls
 TEXTS = [
-    ("10,000 calls", calls(10_000)),
-    ("100,000 calls", calls(100_000)),
-    ("1,000,000 calls", calls(1_000_000)),
-    ("10,000 calls with copies", copies(10_000)),
-    ("100,000 calls with copies", copies(100_000)),
-    ("10,000 writes of a part", recorded(10_000)),
-    ("100,000 writes of a part", recorded(100_000)),
+    ("6,500 calls", calls(6_500)),
+    ("65,000 calls", calls(65_000)),
+    ("6,500 calls with copies", copies(6_500)),
+    ("65,000 calls with copies", copies(65_000)),
+    ("6,500 writes of a part", recorded(6_500)),
+    ("65,000 writes of a part", recorded(65_000)),
     ("a store of 16,000,000 bytes", one_store(16_000_000)),
     ("67 MB of line feeds", repeated(b"", b"\n", 67_000_000)),
     ("67 MB, one line of spaces", repeated(OPENING, b" ", 67_000_000)),
