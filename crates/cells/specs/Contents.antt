@@ -44,7 +44,3 @@ Agrees [] [] = Unit {0}
 Agrees (byte ∷ bytes) (cell ∷ cells) = AgreesAt byte cell × Agrees bytes cells
 Agrees [] (cell ∷ cells) = ⊥
 Agrees (byte ∷ bytes) [] = ⊥
-
--- A content agrees with another of its length where it has the same cell wherever the other is defined.
-abbrev pub AgreesWith : Content → Content → Type 0
-AgreesWith content other = Agrees content other
