@@ -34,7 +34,7 @@ use Rattle.gl_model.proofs.StoreSizes.{length-cells, length-payload_bytes, lengt
 use Rattle.gl_model.proofs.SizeLaws.{at_most, store_changed, buffer_changed, untouched, buffer_found}
 
 -- no row holds
-abbrev NoneHolds : List Row → Type 0
+abbrev pub NoneHolds : List Row → Type 0
 NoneHolds [] = Unit {0}
 NoneHolds (row ∷ rows) = (row.0 ≡ false) × NoneHolds rows
 
@@ -45,7 +45,7 @@ row_fails row rows h = by_case row.0 refl h
     by_case true is h = let no : ⊥ = cc in absurd no
     by_case false is h = (is, h)
 
-none_holds : (rows : List Row) → first_row rows ≡ None → NoneHolds rows
+pub none_holds : (rows : List Row) → first_row rows ≡ None → NoneHolds rows
 none_holds [] h = tt
 none_holds (row ∷ rows) h = let r : (row.0 ≡ false) × (first_row rows ≡ None) = row_fails row rows h in (r.0, none_holds rows r.1)
 

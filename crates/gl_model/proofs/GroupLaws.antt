@@ -28,8 +28,8 @@ change_picture-group state attachment paint =
     [ None ↦ refl | Some p ↦ with_cells-group state attachment (paint p) ]
 
 gl_storage-group : (state : GroupModel) (context : Context) (asked : Call) → (gl_storage state context asked).group ≡ state.group
-gl_storage-group state context (call.TexStorage levels format width height) = change_picture-group state _ _
-gl_storage-group state context (call.RenderbufferStorage format width height) = change_picture-group state _ _
+gl_storage-group state context (call.TexStorage levels format width height) = with_cells-group state _ _
+gl_storage-group state context (call.RenderbufferStorage format width height) = with_cells-group state _ _
 gl_storage-group state context _ = refl
 
 in_context-group : (state : GroupModel) (thread : ℕ) (asked : Call) → (in_context gl_storage state thread asked).group ≡ state.group

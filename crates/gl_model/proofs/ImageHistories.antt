@@ -3,7 +3,7 @@ use Rattle.std.proofs.Common.{pos, negsuc, true, false, Some, None, List, [], �
 use Rattle.formats.specs.declared.format.Format.TheVariants as formats
 use Rattle.formats.specs.declared.pixel.PixelFormat.TheVariants as pixels
 use Rattle.formats.specs.declared.pixel.PixelType.TheVariants as types
-use Rattle.formats.specs.declared.errors.FbStatus.TheVariants.{Complete, IncompleteMissingAttachment, Unsupported}
+use Rattle.formats.specs.declared.errors.FbStatus.TheVariants.{Complete, IncompleteAttachment, IncompleteMissingAttachment, Unsupported}
 use Rattle.gl_calls.specs.declared.reply.GlError.TheVariants.{InvalidOperation, InvalidFramebufferOperation, OutOfMemory}
 use Rattle.gl_calls.specs.declared.reply.Reply.TheVariants as reply
 use Rattle.gl_calls.specs.declared.reply.Entry.{Entry}
@@ -202,3 +202,41 @@ overlapping_rows_of_a_read =
 pub overlapping_rows_of_a_read-is_legal : IsLegal (0 ∷ []) overlapping_rows_of_a_read
 unfolding tex_sub_image_rows copy_tex_sub_image_rows
 overlapping_rows_of_a_read-is_legal = (refl, (refl, (refl, (refl, (refl, (refl, (refl, (refl, (refl, (refl, (refl, (refl, (refl, (refl, ((λ _. refl, (λ _. refl, (λ _. refl, (λ _. refl, tt)))), (refl, tt))))))))))))))))
+
+abbrev pub loses_its_storage : List Entry
+loses_its_storage =
+    record { thread = 0; line = 4; call = call.CreateContext 1; reply = reply.Done } ∷
+    record { thread = 0; line = 5; call = call.MakeCurrent 1; reply = reply.Done } ∷
+    record { thread = 0; line = 6; call = call.Bind targets.Renderbuffer 1; reply = reply.Done } ∷
+    record { thread = 0; line = 7; call = call.RenderbufferStorage (words.Known formats.R8ui) (pos 1) (pos 1); reply = reply.Done } ∷
+    record { thread = 0; line = 8; call = call.Bind (targets.Framebuffer framebuffers.Both) 1; reply = reply.Done } ∷
+    record { thread = 0; line = 9; call = call.Attach framebuffers.Both C0 what.Renderbuffer 1; reply = reply.Done } ∷
+    record { thread = 0; line = 10; call = call.ClearUnsigned (pos 0) 7 0 0 0; reply = reply.Done } ∷
+    record { thread = 0; line = 11; call = call.ReadPixels (pos 0) (pos 0) (pos 1) (pos 1) pixels.RedInteger types.UnsignedByte destination.Client; reply = (reply.Bytes (7 ∷ [])) } ∷
+    record { thread = 0; line = 12; call = call.RenderbufferStorage (words.Known formats.R8ui) (pos 0) (pos 1); reply = reply.Done } ∷
+    record { thread = 0; line = 13; call = call.CheckFramebufferStatus framebuffers.Both; reply = (reply.Status IncompleteAttachment) } ∷
+    record { thread = 0; line = 14; call = call.ClearUnsigned (pos 0) 7 0 0 0; reply = (reply.GlFault InvalidFramebufferOperation) } ∷
+    record { thread = 0; line = 15; call = call.ReadPixels (pos 0) (pos 0) (pos 1) (pos 1) pixels.RedInteger types.UnsignedByte destination.Client; reply = (reply.GlFault InvalidFramebufferOperation) } ∷ []
+
+pub loses_its_storage-is_legal : IsLegal (0 ∷ []) loses_its_storage
+unfolding tex_sub_image_rows copy_tex_sub_image_rows
+loses_its_storage-is_legal = (refl, (refl, (refl, (refl, (refl, (refl, (refl, ((λ _. refl, tt), (refl, (refl, (refl, (refl, tt))))))))))))
+
+abbrev pub storage_is_new : List Entry
+storage_is_new =
+    record { thread = 0; line = 4; call = call.CreateContext 1; reply = reply.Done } ∷
+    record { thread = 0; line = 5; call = call.MakeCurrent 1; reply = reply.Done } ∷
+    record { thread = 0; line = 6; call = call.Bind targets.Renderbuffer 1; reply = reply.Done } ∷
+    record { thread = 0; line = 7; call = call.RenderbufferStorage (words.Known formats.R8ui) (pos 1) (pos 1); reply = reply.Done } ∷
+    record { thread = 0; line = 8; call = call.Bind (targets.Framebuffer framebuffers.Both) 1; reply = reply.Done } ∷
+    record { thread = 0; line = 9; call = call.Attach framebuffers.Both C0 what.Renderbuffer 1; reply = reply.Done } ∷
+    record { thread = 0; line = 10; call = call.ClearUnsigned (pos 0) 7 0 0 0; reply = reply.Done } ∷
+    record { thread = 0; line = 11; call = call.RenderbufferStorage (words.Known formats.R8ui) (pos 0) (pos 1); reply = reply.Done } ∷
+    record { thread = 0; line = 12; call = call.RenderbufferStorage (words.Known formats.R8ui) (pos 1) (pos 1); reply = reply.Done } ∷
+    record { thread = 0; line = 13; call = call.ReadPixels (pos 0) (pos 0) (pos 1) (pos 1) pixels.RedInteger types.UnsignedByte destination.Client; reply = (reply.Bytes (0 ∷ [])) } ∷
+    record { thread = 0; line = 14; call = call.ClearUnsigned (pos 0) 8 0 0 0; reply = reply.Done } ∷
+    record { thread = 0; line = 15; call = call.ReadPixels (pos 0) (pos 0) (pos 1) (pos 1) pixels.RedInteger types.UnsignedByte destination.Client; reply = (reply.Bytes (8 ∷ [])) } ∷ []
+
+pub storage_is_new-is_legal : IsLegal (0 ∷ []) storage_is_new
+unfolding tex_sub_image_rows copy_tex_sub_image_rows
+storage_is_new-is_legal = (refl, (refl, (refl, (refl, (refl, (refl, (refl, (refl, (refl, ((λ h. absurd (omega arith), tt), (refl, ((λ _. refl, tt), tt))))))))))))

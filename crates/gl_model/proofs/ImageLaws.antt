@@ -29,7 +29,7 @@ use Rattle.gl_model.proofs.GroupLaws.{effect-group}
 entry_other : (t u : ℕ) (content : Content) (table : Entries Content) → (u == t) ≡ false → unwrap_or (entry u (with_entry t content table)) [] ≡ unwrap_or (entry u table) []
 entry_other t u content table apart = rw (entry-with_entry t u content table) (rw apart refl)
 
-with_cells-other : (state : GroupModel) (target : Attachment) (content : Content) (image : Attachment) → same_attachment image target ≡ false → cells_of (with_cells state target content) image ≡ cells_of state image
+pub with_cells-other : (state : GroupModel) (target : Attachment) (content : Content) (image : Attachment) → same_attachment image target ≡ false → cells_of (with_cells state target content) image ≡ cells_of state image
 with_cells-other state Empty content image apart = refl
 with_cells-other state (Texture t) content Empty apart = refl
 with_cells-other state (Texture t) content (Texture u) apart = entry_other t u content state.texture_cells apart
@@ -122,10 +122,10 @@ gl_contents-image state context _ image apart = refl
 
 gl_storage-image : (state : GroupModel) (context : Context) (asked : Call) (image : Attachment) → list_any (same_attachment image) (changed_images_in context asked) ≡ false → cells_of (gl_storage state context asked) image ≡ cells_of state image
 gl_storage-image state context (call.TexStorage levels format width height) image apart =
-    change_picture-other state (bound_texture_attachment context) _ image (only_one image (bound_texture_attachment context) apart)
+    with_cells-other state (bound_texture_attachment context) _ image (only_one image (bound_texture_attachment context) apart)
 gl_storage-image state context (call.RenderbufferStorage format width height) image apart =
     let target = option_map_or Renderbuffer context.renderbuffer Empty in
-    change_picture-other state target _ image (only_one image target apart)
+    with_cells-other state target _ image (only_one image target apart)
 gl_storage-image state context _ image apart = refl
 
 pub fence_effect-cells : (state : GroupModel) (thread : ℕ) (asked : Call) (place : ℕ) (image : Attachment) → cells_of (fence_effect state thread asked place) image ≡ cells_of state image

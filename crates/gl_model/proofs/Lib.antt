@@ -16,3 +16,7 @@ pub mod ImageHistories
 pub mod CopyHistories
 pub mod ContextHistories
 pub mod WrongHistories
+pub mod LostStorage
+pub mod KeyLaws
+pub mod ContextKeys
+pub mod SyncLaws

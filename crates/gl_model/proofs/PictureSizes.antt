@@ -1,6 +1,6 @@
 -- Calls paint images without changing the size of what they hold.
 use Rattle.std.proofs.Common.{◌≡◌, ℕ, ℤ, ◌==◌, Bool, true, false, Option, Some, None, List, [], ◌∷◌, length, unwrap_or, unsigned_abs, refl, ap, sym, ◌∙◌, arith, if◌then◌else◌}
-use Rattle.std.specs.Option.{option_map_or}
+use Rattle.std.specs.Option.{option_map_or, option_map}
 use Rattle.std.specs.List.{fold}
 use Rattle.std.proofs.lemmas.Grind.{common_steps}
 use Rattle.cells.specs.Contents.{Content, UNDEFINED, undefined_cells}
@@ -15,13 +15,14 @@ use Rattle.gl_calls.specs.Words.{is_color_mask, drawn_point}
 use Rattle.tables.specs.Table.{Entries, entry, with_entry}
 use Rattle.gl_model.specs.declared.objects.ImageInfo.{ImageInfo}
 use Rattle.gl_model.specs.GroupState.{Attachment, Empty, Texture, Renderbuffer, Context}
-use Rattle.gl_model.specs.Bindings.{attached_image, same_attachment, read_attachment, drawn_attachments, is_complete, status_of, framebuffer_of, framebuffer_name, point_of}
+use Rattle.gl_model.specs.Bindings.{attached_image, image_of, same_attachment, read_attachment, drawn_attachments, is_complete, status_of, framebuffer_of, framebuffer_name, point_of}
 use Rattle.gl_model.specs.Refusal.{read_framebuffer, draw_framebuffer}
 use Rattle.gl_model.specs.GroupModel.{GroupModel, Store}
 use Rattle.gl_model.specs.ImageEffect.{Picture, Corners, content_bytes}
-use Rattle.gl_model.specs.Effect.{change_picture, change_store, picture_of, gl_contents, blit, read_into}
+use Rattle.gl_model.specs.Effect.{change_picture, change_store, picture_of, with_cells, new_cells, new_storage, gl_contents, blit, read_into}
+use Rattle.gl_model.specs.Storage.{image_bytes}
 use Rattle.gl_model.specs.Reached.{cells_of, texture_of, renderbuffer_of}
-use Rattle.gl_model.specs.Sizes.{HasImageSizes}
+use Rattle.gl_model.specs.Sizes.{HoldImages}
 use Rattle.gl_model.proofs.TableLaws.{entry-with_entry}
 use Rattle.gl_model.proofs.GroupLaws.{change_picture-group}
 use Rattle.gl_model.proofs.StoreSizes.{length-cells}
@@ -60,43 +61,70 @@ painted_at state Empty paint info h = let no : ⊥ = cc in absurd no
 painted_at state (Texture t) paint info h = rw h (entry_here t (paint (record { info = info; cells = texture_of state t })) state.texture_cells)
 painted_at state (Renderbuffer r) paint info h = rw h (entry_here r (paint (record { info = info; cells = renderbuffer_of state r })) state.renderbuffer_cells)
 
-pub painted_sizes : (state : GroupModel) (target : Attachment) (paint : Picture → Content) → KeepsSize paint → HasImageSizes state → HasImageSizes (change_picture state target paint)
-painted_sizes state target paint keeps sizes image info h = by_image (same_attachment image target) refl
-  where
-    before : attached_image state.group image ≡ Some info
-    before = ap (λ g. attached_image g image) (sym (change_picture-group state target paint)) ∙ h
+length-new : (content : Content) (o : Option ImageInfo) → length (option_map_or (λ (p : Picture). undefined_cells (content_bytes p.info)) (option_map (λ i. record { info = i; cells = content }) o) []) ≡ image_bytes o
+length-new content None = refl
+length-new content (Some info) = length-cells (content_bytes info) (λ _. UNDEFINED)
 
-    by_image : (t : Bool) → same_attachment image target ≡ t → length (cells_of (change_picture state target paint) image) ≡ content_bytes info
-    by_image false is = ap length (change_picture-other state target paint image is) ∙ sizes image info before
+-- the image that is painted has its size; nothing is painted where it has no storage
+painted_length : (state : GroupModel) (target : Attachment) (paint : Picture → Content) → KeepsSize paint → length (cells_of state target) ≡ image_bytes (attached_image state.group target) → length (cells_of (change_picture state target paint) target) ≡ image_bytes (attached_image state.group target)
+painted_length state Empty paint keeps size = refl
+painted_length state (Texture t) paint keeps size = by_image (image_of state.group.textures (Some t)) refl size
+  where
+    by_image : (o : Option ImageInfo) → image_of state.group.textures (Some t) ≡ o → length (texture_of state t) ≡ image_bytes o → length (cells_of (option_map_or (λ p. with_cells state (Texture t) (paint p)) (option_map (λ i. record { info = i; cells = texture_of state t }) o) state) (Texture t)) ≡ image_bytes o
+    by_image None is h = h
+    by_image (Some info) is h =
+        ap length (entry_here t (paint (record { info = info; cells = texture_of state t })) state.texture_cells) ∙ keeps (record { info = info; cells = texture_of state t })
+painted_length state (Renderbuffer r) paint keeps size = by_image (image_of state.group.renderbuffers (Some r)) refl size
+  where
+    by_image : (o : Option ImageInfo) → image_of state.group.renderbuffers (Some r) ≡ o → length (renderbuffer_of state r) ≡ image_bytes o → length (cells_of (option_map_or (λ p. with_cells state (Renderbuffer r) (paint p)) (option_map (λ i. record { info = i; cells = renderbuffer_of state r }) o) state) (Renderbuffer r)) ≡ image_bytes o
+    by_image None is h = h
+    by_image (Some info) is h =
+        ap length (entry_here r (paint (record { info = info; cells = renderbuffer_of state r })) state.renderbuffer_cells) ∙ keeps (record { info = info; cells = renderbuffer_of state r })
+
+-- the image whose storage is made anew has its size
+pub renewed_length : (state : GroupModel) (target : Attachment) → length (cells_of (new_storage target state) target) ≡ image_bytes (attached_image state.group target)
+renewed_length state Empty = refl
+renewed_length state (Texture t) =
+    ap length (entry_here t (new_cells state (Texture t)) state.texture_cells)
+    ∙ length-new (texture_of state t) (image_of state.group.textures (Some t))
+renewed_length state (Renderbuffer r) =
+    ap length (entry_here r (new_cells state (Renderbuffer r)) state.renderbuffer_cells)
+    ∙ length-new (renderbuffer_of state r) (image_of state.group.renderbuffers (Some r))
+
+pub painted_sizes : (state : GroupModel) (target : Attachment) (paint : Picture → Content) → KeepsSize paint → HoldImages state → HoldImages (change_picture state target paint)
+painted_sizes state target paint keeps sizes image = by_image (same_attachment image target) refl ∙ sym (ap (λ g. image_bytes (attached_image g image)) (change_picture-group state target paint))
+  where
+    by_image : (t : Bool) → same_attachment image target ≡ t → length (cells_of (change_picture state target paint) image) ≡ image_bytes (attached_image state.group image)
+    by_image false is = ap length (change_picture-other state target paint image is) ∙ sizes image
     by_image true is =
         let same : image ≡ target = same_image image target is in
-        let there : attached_image state.group target ≡ Some info = ap (λ i. attached_image state.group i) (sym same) ∙ before in
         ap (λ i. length (cells_of (change_picture state target paint) i)) same
-        ∙ ap length (painted_at state target paint info there)
-        ∙ keeps (record { info = info; cells = cells_of state target })
+        ∙ painted_length state target paint keeps (sizes target)
+        ∙ ap (λ i. image_bytes (attached_image state.group i)) (sym same)
 
 change_store-group : (state : GroupModel) (bound : Option ℕ) (change : Store → Store) → (change_store state bound change).group ≡ state.group
 change_store-group state None change = refl
 change_store-group state (Some b) change = refl
 
-stored_sizes : (state : GroupModel) (bound : Option ℕ) (change : Store → Store) → HasImageSizes state → HasImageSizes (change_store state bound change)
-stored_sizes state bound change sizes image info h =
+stored_sizes : (state : GroupModel) (bound : Option ℕ) (change : Store → Store) → HoldImages state → HoldImages (change_store state bound change)
+stored_sizes state bound change sizes image =
     ap length (change_store-cells state bound change image)
-    ∙ sizes image info (ap (λ g. attached_image g image) (sym (change_store-group state bound change)) ∙ h)
+    ∙ sizes image
+    ∙ sym (ap (λ g. image_bytes (attached_image g image)) (change_store-group state bound change))
 
-copied_sizes : (state : GroupModel) (target : Attachment) (paint : Picture → Picture → Content) (read : Option Picture) → ((r : Picture) → KeepsSize (paint r)) → HasImageSizes state → HasImageSizes (option_map_or (λ r. change_picture state target (paint r)) read state)
+copied_sizes : (state : GroupModel) (target : Attachment) (paint : Picture → Picture → Content) (read : Option Picture) → ((r : Picture) → KeepsSize (paint r)) → HoldImages state → HoldImages (option_map_or (λ r. change_picture state target (paint r)) read state)
 copied_sizes state target paint None keeps sizes = sizes
 copied_sizes state target paint (Some r) keeps sizes = painted_sizes state target (paint r) (keeps r) sizes
 
-blitted_sizes : (state : GroupModel) (paint : Picture → Content) (targets : List Attachment) → KeepsSize paint → HasImageSizes state → HasImageSizes (fold (λ s target. change_picture s target paint) state targets)
+blitted_sizes : (state : GroupModel) (paint : Picture → Content) (targets : List Attachment) → KeepsSize paint → HoldImages state → HoldImages (fold (λ s target. change_picture s target paint) state targets)
 blitted_sizes state paint [] keeps sizes = sizes
 blitted_sizes state paint (target ∷ targets) keeps sizes = blitted_sizes (change_picture state target paint) paint targets keeps (painted_sizes state target paint keeps sizes)
 
-blit_sizes : (state : GroupModel) (context : Context) (read : Option Picture) (corners : Corners) → HasImageSizes state → HasImageSizes (blit state context read corners)
+blit_sizes : (state : GroupModel) (context : Context) (read : Option Picture) (corners : Corners) → HoldImages state → HoldImages (blit state context read corners)
 blit_sizes state context None corners sizes = sizes
 blit_sizes state context (Some read) corners sizes = blitted_sizes state _ (drawn_attachments (draw_framebuffer context)) (λ p. length-cells (content_bytes p.info) _) sizes
 
-chosen_sizes : (b : Bool) (one two : GroupModel) → HasImageSizes one → HasImageSizes two → HasImageSizes (if b then one else two)
+chosen_sizes : (b : Bool) (one two : GroupModel) → HoldImages one → HoldImages two → HoldImages (if b then one else two)
 chosen_sizes true one two h k = h
 chosen_sizes false one two h k = k
 
@@ -105,13 +133,14 @@ read_into-group state context destination.Client read pixels kind x y width heig
 read_into-group state context (destination.Offset at) None pixels kind x y width height = refl
 read_into-group state context (destination.Offset at) (Some read) pixels kind x y width height = change_store-group state context.pixel_pack _
 
-read_sizes : (state : GroupModel) (context : Context) (to : PixelDestination) (read : Option Picture) (pixels : PixelFormat) (kind : PixelType) (x y : ℤ) (width height : ℕ) → HasImageSizes state → HasImageSizes (read_into state context to read pixels kind x y width height)
-read_sizes state context to read pixels kind x y width height sizes image info h =
+read_sizes : (state : GroupModel) (context : Context) (to : PixelDestination) (read : Option Picture) (pixels : PixelFormat) (kind : PixelType) (x y : ℤ) (width height : ℕ) → HoldImages state → HoldImages (read_into state context to read pixels kind x y width height)
+read_sizes state context to read pixels kind x y width height sizes image =
     ap length (read_into-cells state context to read pixels kind x y width height image)
-    ∙ sizes image info (ap (λ g. attached_image g image) (sym (read_into-group state context to read pixels kind x y width height)) ∙ h)
+    ∙ sizes image
+    ∙ sym (ap (λ g. image_bytes (attached_image g image)) (read_into-group state context to read pixels kind x y width height))
 
 -- each call
-pub contents_sizes : (state : GroupModel) (context : Context) (asked : Call) → HasImageSizes state → HasImageSizes (gl_contents state context asked)
+pub contents_sizes : (state : GroupModel) (context : Context) (asked : Call) → HoldImages state → HoldImages (gl_contents state context asked)
 contents_sizes state context (call.Delete kinds.Buffer name) sizes = stored_sizes state _ _ sizes
 contents_sizes state context (call.Delete kinds.Texture name) sizes = sizes
 contents_sizes state context (call.Delete kinds.Renderbuffer name) sizes = sizes

@@ -38,7 +38,7 @@ same_key : (m n : ℕ) → (m == n) ≡ true → m ≡ n
 same_key m n h = grind (arith, common_steps)
 
 -- an entry that is there is changed
-replaced-none : (c b : ℕ) (f g : BufferFacts) (table : Entries BufferFacts) → entry c table ≡ Some g → entry b table ≡ None → entry b (with_entry c f table) ≡ None
+pub replaced-none : {V : Type 0} (c b : ℕ) (f g : V) (table : Entries V) → entry c table ≡ Some g → entry b table ≡ None → entry b (with_entry c f table) ≡ None
 replaced-none c b f g table there free = entry-with_entry c b f table ∙ by_key (b == c) refl
   where
     by_key : (t : Bool) → (b == c) ≡ t → cond t (Some f) (entry b table) ≡ None
@@ -69,7 +69,7 @@ delete_renderbuffer-free group number context None b free = free
 delete_renderbuffer-free group number context (Some t) b free = free
 
 -- a name bound gives the next number
-bound-free : (t : Bool) (names bound : Names) (fresh : BufferFacts) (table : Entries BufferFacts) (b : ℕ) → bound.made ≡ names.made + 1 → (names.made ≤ b → entry b table ≡ None) → (if t then bound else names).made ≤ b → entry b (if t then with_entry names.made fresh table else table) ≡ None
+pub bound-free : {V : Type 0} (t : Bool) (names bound : Names) (fresh : V) (table : Entries V) (b : ℕ) → bound.made ≡ names.made + 1 → (names.made ≤ b → entry b table ≡ None) → (if t then bound else names).made ≤ b → entry b (if t then with_entry names.made fresh table else table) ≡ None
 bound-free false names bound fresh table b next free past = free past
 bound-free true names bound fresh table b next free past = entry-with_entry names.made b fresh table ∙ by_key (b == names.made) refl
   where
@@ -151,7 +151,7 @@ pub kept_some : {V : Type 0} (t : Bool) (o : Option V) (v : V) → cond t o None
 kept_some true o v h = h
 kept_some false o v h = let no : ⊥ = cc in absurd no
 
-kept_none : {V : Type 0} (t : Bool) (o : Option V) → o ≡ None → cond t o None ≡ None
+pub kept_none : {V : Type 0} (t : Bool) (o : Option V) → o ≡ None → cond t o None ≡ None
 kept_none true o h = h
 kept_none false o h = refl
 

@@ -35,8 +35,8 @@ change_picture-stores state attachment paint =
     [ None ↦ refl | Some p ↦ with_cells-stores state attachment (paint p) ]
 
 gl_storage-stores : (state : GroupModel) (context : Context) (asked : Call) → (gl_storage state context asked).stores ≡ state.stores
-gl_storage-stores state context (call.TexStorage levels format width height) = change_picture-stores state _ _
-gl_storage-stores state context (call.RenderbufferStorage format width height) = change_picture-stores state _ _
+gl_storage-stores state context (call.TexStorage levels format width height) = with_cells-stores state _ _
+gl_storage-stores state context (call.RenderbufferStorage format width height) = with_cells-stores state _ _
 gl_storage-stores state context _ = refl
 
 in_context-stores : (state : GroupModel) (thread : ℕ) (asked : Call) → (in_context gl_storage state thread asked).stores ≡ state.stores

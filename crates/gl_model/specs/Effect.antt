@@ -37,10 +37,6 @@ abbrev pub change_store : GroupModel → Option ℕ → (Store → Store) → Gr
 change_store state None change = state
 change_store state (Some b) change = record state { stores = with_entry b (change (store_of state b)) state.stores }
 
--- the map of a bound buffer
-abbrev pub map_of : GroupModel → Option ℕ → Option BufferFacts
-map_of state bound = buffer_of state.group bound
-
 -- the place in the buffer of a place in its map
 abbrev pub map_place : Option BufferFacts → ℕ → ℕ
 map_place bound at = option_map_or (λ b. option_map_or (λ m. m.at) b.map 0) bound 0 + at
@@ -107,9 +103,13 @@ read_into state context (destination.Offset at) None pixels kind x y width heigh
 read_into state context (destination.Offset at) (Some read) pixels kind x y width height =
     change_store state context.pixel_pack (λ s. record s { cells = after_read s.cells at read pixels kind context.pack x y width height })
 
--- the new storage of an image is not defined
+-- what an image holds as its storage is made anew: cells that are not defined, and nothing where it has no storage
+abbrev pub new_cells : GroupModel → Attachment → Content
+new_cells state attachment = option_map_or (λ p. undefined_cells (content_bytes p.info)) (picture_of state attachment) []
+
+-- The new storage of an image is not defined. An image that lost its storage holds nothing.
 abbrev pub new_storage : Attachment → GroupModel → GroupModel
-new_storage attachment state = change_picture state attachment (λ p. undefined_cells (content_bytes p.info))
+new_storage attachment state = with_cells state attachment (new_cells state attachment)
 
 -- What the objects hold after a call of OpenGL ES in a context. New storage is made when the group has it, below.
 abbrev pub gl_contents : GroupModel → Context → Call → GroupModel

@@ -19,3 +19,4 @@ pub mod Effect
 pub mod Legal
 pub mod Reached
 pub mod Sizes
+pub mod Syncs

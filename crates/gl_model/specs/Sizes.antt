@@ -6,10 +6,9 @@ use Rattle.gl_calls.specs.declared.reply.Entry.{Entry}
 use Rattle.gl_calls.specs.Words.{payload_len}
 use Rattle.tables.specs.Table.{entry}
 use Rattle.gl_model.specs.declared.objects.BufferFacts.{BufferFacts}
-use Rattle.gl_model.specs.declared.objects.ImageInfo.{ImageInfo}
 use Rattle.gl_model.specs.GroupState.{Attachment}
 use Rattle.gl_model.specs.Bindings.{attached_image}
-use Rattle.gl_model.specs.ImageEffect.{content_bytes}
+use Rattle.gl_model.specs.Storage.{image_bytes}
 use Rattle.gl_model.specs.Reached.{cells_of}
 use Rattle.gl_model.specs.GroupModel.{GroupModel, Store}
 use Rattle.gl_model.specs.Effect.{store_of, empty_store}
@@ -36,7 +35,12 @@ abbrev pub HaveTheirData : List Entry → Type 0
 HaveTheirData [] = Unit {0}
 HaveTheirData (e ∷ rest) = HasItsData e.call × HaveTheirData rest
 
--- what an image with storage holds is as long as its texels
-abbrev pub HasImageSizes : GroupModel → Type 0
-HasImageSizes state =
-    (image : Attachment) (info : ImageInfo) → attached_image state.group image ≡ Some info → length (cells_of state image) ≡ content_bytes info
+-- what an image holds is as long as its texels, and an image without storage holds nothing
+abbrev pub HoldImages : GroupModel → Type 0
+HoldImages state = (image : Attachment) → length (cells_of state image) ≡ image_bytes (attached_image state.group image)
+
+-- each image holds its size, and numbers that were not given yet are free
+pub record HasImageSizes (state : GroupModel) : Type 0 where
+  pub cells : HoldImages state
+  pub unmade_textures : (t : ℕ) → state.group.texture_names.made ≤ t → entry t state.group.textures ≡ None
+  pub unmade_renderbuffers : (r : ℕ) → state.group.renderbuffer_names.made ≤ r → entry r state.group.renderbuffers ≡ None

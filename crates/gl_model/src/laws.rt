@@ -1,7 +1,7 @@
 //! Laws of histories and states. A law is a function with no body; its contract is the law.
 
-ghost use Rattle.std.specs.Prelude.{◌≡◌, ◌==◌, ℕ, Some, None, false, true, List, [], ◌∷◌, ◌++◌, length, if◌then◌else◌};
-ghost use Rattle.tables.specs.Table.{has};
+ghost use Rattle.std.specs.Prelude.{◌≡◌, ◌==◌, ◌<◌, ◌+◌, ℕ, Some, None, IfSome, false, true, List, [], ◌∷◌, ◌++◌, length, if◌then◌else◌};
+ghost use Rattle.tables.specs.Table.{entry, has};
 ghost use Rattle.gl_calls.specs.declared.reply.Entry.{Entry};
 ghost use Rattle.gl_calls.specs.declared.reply.Reply.{Reply};
 ghost use Rattle.gl_calls.specs.declared.call.Call.{Call};
@@ -18,6 +18,7 @@ ghost use Rattle.gl_model.specs.Effect.{effect, gl_contents, in_context, change_
 ghost use Rattle.gl_model.specs.Legal.{IsLegal, Step, after_entry};
 ghost use Rattle.gl_model.specs.Refusal.{refusal};
 ghost use Rattle.gl_model.specs.Sizes.{HasSizes, HasImageSizes, HasItsData, HaveTheirData};
+ghost use Rattle.gl_model.specs.Syncs.{HasSyncs, changes_syncs};
 ghost use Rattle.gl_model.specs.Reached.{reached, group_after, group_after_all, changed_buffer, changed_images, cells_of, image_exists, before_the_sweep};
 
 /// The empty history is legal, and a legal history goes on by each entry that is a step of its state.
@@ -85,10 +86,36 @@ pub fn buffers_have_their_sizes()
         HasSizes state → refusal state.group thread call ≡ None → HasItsData call → HasSizes (effect state thread call place) }
 {}
 
-/// Images have their sizes in each reached state: what an image with storage holds is as long as its texels.
+/// Images have their sizes in each reached state: what an image holds is as long as its texels, and one without storage, as a
+/// renderbuffer that lost it, holds nothing.
 pub fn images_have_their_sizes()
     ensures reached { (threads : List ℕ) (history : List Entry) → HasImageSizes (reached threads history) }
     ensures entry { (state : GroupModel) (e : Entry) (place : ℕ) → HasImageSizes state → HasImageSizes (after_entry state e place) }
     ensures effect { (state : GroupModel) (thread : ℕ) (call : Call) (place : ℕ) →
-        HasImageSizes state → HasImageSizes (effect state thread call place) }
+        HasImageSizes state → refusal state.group thread call ≡ None → HasImageSizes (effect state thread call place) }
+{}
+
+/// Syncs and contexts in each reached state: the syncs that a state knows the facts of are the group's, it knows the birth of each
+/// context of the group and of no other, and all of them were made at an earlier place of the history.
+pub fn syncs_are_of_the_group()
+    ensures reached { (threads : List ℕ) (history : List Entry) → HasSyncs (reached threads history) (length history) }
+    ensures entry { (state : GroupModel) (e : Entry) (place : ℕ) → HasSyncs state place → HasSyncs (after_entry state e place) (place + 1) }
+    ensures effect { (state : GroupModel) (thread : ℕ) (call : Call) (place : ℕ) →
+        HasSyncs state place → refusal state.group thread call ≡ None → HasSyncs (effect state thread call place) (place + 1) }
+    ensures numbers { (state : GroupModel) (place n : ℕ) →
+        HasSyncs state place → (has n state.fences ≡ has n state.group.syncs) × (has n state.egl_fences ≡ has n state.group.egl_syncs) }
+    ensures places { (state : GroupModel) (place n : ℕ) →
+        HasSyncs state place →
+        IfSome (entry n state.fences) (λ f. f.place < place) × IfSome (entry n state.egl_fences) (λ f. f.place < place)
+        × IfSome (entry n state.births) (λ birth. birth < place) }
+{}
+
+/// A call that makes and ends no sync and no context, and is no Finish, leaves what is known of syncs and contexts as it is.
+pub fn other_calls_leave_syncs()
+    ensures fences { (state : GroupModel) (thread : ℕ) (call : Call) (place : ℕ) →
+        changes_syncs call ≡ false → (effect state thread call place).fences ≡ state.fences }
+    ensures egl_fences { (state : GroupModel) (thread : ℕ) (call : Call) (place : ℕ) →
+        changes_syncs call ≡ false → (effect state thread call place).egl_fences ≡ state.egl_fences }
+    ensures births { (state : GroupModel) (thread : ℕ) (call : Call) (place since : ℕ) →
+        HasSyncs state since → changes_syncs call ≡ false → (effect state thread call place).births ≡ state.births }
 {}
