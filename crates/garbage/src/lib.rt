@@ -5,9 +5,11 @@
 #![tactic(auto)]
 
 mod entry;
+mod laws;
 mod list;
 mod turning;
 
 pub use entry::Garbage;
+pub use laws::cleanups_collect;
 pub use list::GarbageList;
 use turning::Turning;

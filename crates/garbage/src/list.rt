@@ -84,6 +84,7 @@ impl GarbageList {
         ensures some { IfSome result (λ item. self.old.items ≡ item ∷ self.new.items) }
         ensures none { IfNone result (self.old.items ≡ []) }
         ensures unchanged { IfNone result (self.new.items ≡ self.old.items) }
+        ensures room { self.old.room ≤ self.new.room }
     {
         match self.turning.passed.pop_front() {
             Some(item) => Some(item),

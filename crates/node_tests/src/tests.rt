@@ -131,6 +131,44 @@ fn a_blit_turns_an_image_round(rt: HostRuntime) -> Result<(), Fail> {
     Ok(())
 }
 
+/// Neither a source nor a destination without area writes.
+#[test]
+fn a_blit_without_area_writes_nothing(rt: HostRuntime) -> Result<(), Fail> {
+    let whole = Rect {
+        x: 0,
+        y: 0,
+        w: 3,
+        h: 2,
+    };
+    let square = Coords {
+        sx0: 0,
+        sy0: 0,
+        sx1: 2,
+        sy1: 2,
+        dx0: 0,
+        dy0: 0,
+        dx1: 2,
+        dy1: 2,
+    };
+    let flat = [
+        Coords { sx1: 0, ..square },
+        Coords { sy1: 0, ..square },
+        Coords { dx1: 0, ..square },
+        Coords { dy1: 0, ..square },
+    ];
+    for coords in flat {
+        let op = Op::BlitImage {
+            src: A,
+            dst: B,
+            coords,
+            clip: whole,
+        };
+        let bytes = after(rt.alloc(), IMAGE, &[1, 2, 3, 4, 5, 6], IMAGE, &[9; 6], op)?;
+        assert_eq!(rt; bytes.as_slice(), [9; 6].as_slice());
+    }
+    Ok(())
+}
+
 #[test]
 fn a_clear_stays_in_its_rectangle(rt: HostRuntime) -> Result<(), Fail> {
     let op = Op::ClearImage {

@@ -6,13 +6,14 @@ use Rattle.std.proofs.lemmas.Bool.{or_cases, eqb-true, false≢true}
 use Rattle.std.proofs.lemmas.List.Elements.{All-nil, All-cons}
 use Rattle.vk_types.specs.declared.handles.Kind.{Kind}
 use Rattle.vk_types.specs.declared.handles.Kind.TheVariants.{Buffer, Image}
+use Rattle.vk_types.specs.declared.accesses.Layout.{Layout}
 use Rattle.vk_types.specs.declared.regions.Rect.{Rect}
 use Rattle.vk_types.specs.declared.regions.Touch.{Touch}
 use Rattle.vk_types.specs.declared.ops.Op.{Op}
 use Rattle.vk_types.specs.declared.ops.Op.TheVariants.{CopyBuffer, BufferToImage, ImageToBuffer, CopyImage, BlitImage, ClearImage, FillBuffer, PassPart}
 use Rattle.vk_types.specs.declared.ops.Node.{Node}
 use Rattle.vk_types.specs.Touches.{op_touches}
-use Rattle.vk_model.specs.Fitting.{HasRange, HasRect, IsImage, OpFits, NodeFits}
+use Rattle.vk_model.specs.Fitting.{HasRange, HasRect, IsImage, LayoutsFit, OpFits, NodeFits}
 use Rattle.vk_model.specs.Log.{Command, node_range}
 use Rattle.vk_model.specs.Meaning.{touches_id}
 use Rattle.vk_device.specs.Journal.{Objects, TouchesLive}
@@ -28,6 +29,10 @@ rect_lives (Some kind) rect has = refl
 image_lives : (o : Option Kind) → IsImage o → IsSome o
 image_lives None has = absurd has
 image_lives (Some kind) has = refl
+
+layouts_live : (o : Option Kind) (layouts : Option (Layout × Layout)) → LayoutsFit o layouts → IsSome o
+layouts_live None layouts has = absurd has
+layouts_live (Some kind) layouts has = refl
 
 module _ (objects : Objects) where
   abbrev Lives : Touch → Type 0
@@ -48,7 +53,7 @@ module _ (objects : Objects) where
   op_lives (ClearImage image rect texel) fits = one _ (rect_lives (objects image.0) _ fits)
   op_lives (FillBuffer dst dst_at size byte) fits = one _ (range_lives (objects dst.0) _ _ fits)
   op_lives (PassPart _ _ image _ _ clears) fits = one _ (image_lives (objects image.0) fits.0)
-  op_lives (Op.Barrier b) fits = one _ fits
+  op_lives (Op.Barrier b) fits = one _ (layouts_live (objects b.id.0) b.layouts fits)
 
   pub fits_lives : (n : Node) → NodeFits objects n → TouchesLive objects n
   fits_lives n fits = op_lives n.op fits

@@ -73,6 +73,7 @@ pub trait Device {
         ensures logged { OnOk result (ChangesOnly journal bytes_of self.old self.new id.0 (Fetched id at out.new)) }
         ensures same { OnOk result (bytes_of self.new id.0 ≡ bytes_of self.old id.0) }
         ensures read { OnOk result (out.new ≡ part (bytes_of self.old id.0) at (length out.old)) }
+        ensures unread { OnErr result (out.new ≡ out.old) }
         ensures err { OnErr result (ChangesNothing journal bytes_of self.old self.new) }
         ensures cause { HasCause (faults self.old) (faults self.new) result };
 

@@ -12,7 +12,7 @@ use Rattle.vk_types.specs.declared.ops.Op.TheVariants.{CopyBuffer, BufferToImage
 use Rattle.vk_types.specs.declared.ops.Node.{Node}
 use Rattle.vk_types.specs.Accesses.{in_common, no_access}
 use Rattle.vk_types.specs.Touches.{touches, op_touches, barrier_of, op_barrier, whole, the_end}
-use Rattle.vk_model.specs.Log.{Range, node_range, node_ranges, clash, some_clash, conflict, touches_with, touches_object, waits_for, holds_back, chained, node_edge, NoneEmpty, Conflicts}
+use Rattle.vk_model.specs.Log.{Range, node_range, node_ranges, clash, some_clash, conflict, touches_with, touches_object, conflict_on, waits_for, holds_back, chained, node_edge, NoneEmpty, Conflicts}
 use Rattle.vk_model.proofs.Local.{any_two, same_object}
 
 pub any_weaker : {X : Type 0} (p q : X → Bool) → ((x : X) → p x ≡ true → q x ≡ true) → (xs : List X) → list_any p xs ≡ true → list_any q xs ≡ true
@@ -77,6 +77,41 @@ shares_from a b (t ∷ ts) e = go (or_cases (list_any (clash (node_range a t)) (
 
 pub shares : (a b : Node) → Conflicts a b → Shares a b
 shares a b e = let r = shares_from a b (touches a) e in record { id = r.0; by_a = r.1; by_b = r.2 }
+
+-- two nodes that conflict do so on an object that both touch
+pub record ConflictsOn (a b : Node) : Type 0 where
+  pub id : ℕ
+  pub by_a : touches_object a id ≡ true
+  pub by_b : touches_object b id ≡ true
+  pub on : conflict_on id a b ≡ true
+
+conflicts_on_from : (a b : Node) (ts : List Touch) → some_clash (map (node_range a) ts) (node_ranges b) ≡ true →
+    (id : ℕ) × (list_any (λ t. eqb t.id.0 id) ts ≡ true) × (touches_object b id ≡ true) × (list_any (λ r. eqb r.id id && list_any (clash r) (node_ranges b)) (map (node_range a) ts) ≡ true)
+conflicts_on_from a b [] e = absurd (false≢true e)
+conflicts_on_from a b (t ∷ ts) e = go (or_cases (list_any (clash (node_range a t)) (node_ranges b)) (some_clash (map (node_range a) ts) (node_ranges b)) e) (conflicts_on_from a b ts)
+  where
+    others : ℕ → Bool
+    others id = list_any (λ r. eqb r.id id && list_any (clash r) (node_ranges b)) (map (node_range a) ts)
+
+    go : (list_any (clash (node_range a t)) (node_ranges b) ≡ true) ⊎ (some_clash (map (node_range a) ts) (node_ranges b) ≡ true) →
+        (some_clash (map (node_range a) ts) (node_ranges b) ≡ true → (id : ℕ) × (list_any (λ t. eqb t.id.0 id) ts ≡ true) × (touches_object b id ≡ true) × (list_any (λ r. eqb r.id id && list_any (clash r) (node_ranges b)) (map (node_range a) ts) ≡ true)) →
+        (id : ℕ) × (list_any (λ t. eqb t.id.0 id) (t ∷ ts) ≡ true) × (touches_object b id ≡ true) × (list_any (λ r. eqb r.id id && list_any (clash r) (node_ranges b)) (map (node_range a) (t ∷ ts)) ≡ true)
+    go (inl f) rest = (
+      t.id.0,
+      or_left (eqb t.id.0 t.id.0) (list_any (λ u. eqb u.id.0 t.id.0) ts) (eq-eqb t.id.0 t.id.0 refl),
+      clashing_touch b (node_range a t) (touches b) f,
+      or_left (eqb t.id.0 t.id.0 && list_any (clash (node_range a t)) (node_ranges b)) (others t.id.0) (and_from (eqb t.id.0 t.id.0) (list_any (clash (node_range a t)) (node_ranges b)) (eq-eqb t.id.0 t.id.0 refl) f),
+    )
+    go (inr f) rest =
+        let r = rest f in (
+          r.0,
+          or_right (eqb t.id.0 r.0) (list_any (λ u. eqb u.id.0 r.0) ts) r.1,
+          r.2,
+          or_right (eqb t.id.0 r.0 && list_any (clash (node_range a t)) (node_ranges b)) (others r.0) r.3,
+        )
+
+pub conflicts_on : (a b : Node) → Conflicts a b → ConflictsOn a b
+conflicts_on a b e = let r = conflicts_on_from a b (touches a) e in record { id = r.0; by_a = r.1; by_b = r.2; on = r.3 }
 
 -- Barriers
 

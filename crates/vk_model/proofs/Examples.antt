@@ -1,12 +1,13 @@
 -- What the definitions give on small examples, each by computing it.
-use Rattle.std.proofs.Common.{◌≡◌, ℕ, [], ◌∷◌, refl}
+use Rattle.std.proofs.Common.{◌≡◌, ℕ, [], ◌∷◌, true, false, refl}
 use Rattle.std.specs.Prelude.{pos, negsuc, Some, None, map}
 use Rattle.vk_types.specs.declared.handles.Kind.{Kind}
 use Rattle.vk_types.specs.declared.handles.Kind.TheVariants.{Buffer, Image}
 use Rattle.vk_types.specs.declared.ops.Op.TheVariants.{CopyBuffer, ClearImage}
+use Rattle.vk_types.specs.declared.ops.Node.{Node}
 use Rattle.vk_model.specs.Texels.{texel_bytes, expanded_texel, converted_texel}
 use Rattle.vk_model.specs.Cells.{place, column_at, row_at, byte_at, behind, source_of, last_row}
-use Rattle.vk_model.specs.Log.{Command, HostWrite}
+use Rattle.vk_model.specs.Log.{Command, HostWrite, conflict_on}
 use Rattle.cells.specs.Contents.{cells}
 use Rattle.vk_model.specs.Meaning.{eval}
 
@@ -53,6 +54,13 @@ source_mirrored = refl
 cut : map (source_of 3 (pos 0) (pos 4) (negsuc 1) (pos 2)) (0 ∷ 1 ∷ 2 ∷ []) ≡ Some 2 ∷ None ∷ None ∷ []
 cut = refl
 
+-- a source or a destination without width gives no column
+from_none : map (source_of 3 (pos 1) (pos 1) (pos 0) (pos 3)) (0 ∷ 1 ∷ 2 ∷ []) ≡ None ∷ None ∷ None ∷ []
+from_none = refl
+
+to_none : map (source_of 3 (pos 0) (pos 3) (pos 1) (pos 1)) (0 ∷ 1 ∷ 2 ∷ []) ≡ None ∷ None ∷ None ∷ []
+to_none = refl
+
 later_rows : map (last_row 3 4) (0 ∷ 3 ∷ 4 ∷ 9 ∷ 20 ∷ []) ≡ 0 ∷ 0 ∷ 1 ∷ 2 ∷ 2 ∷ []
 later_rows = refl
 
@@ -66,6 +74,17 @@ copied = refl
 -- a byte that was never written stays undefined when it is copied
 undefined_copied : cells 2 (eval buffers (HostWrite 1 0 (9 ∷ []) ∷ Command 0 (record { op = CopyBuffer (record { 0 = 1 }) 0 (record { 0 = 2 }) 0 2 }) ∷ []) 2) ≡ 9 ∷ 256 ∷ []
 undefined_copied = refl
+
+abbrev copied_over : Node
+copied_over = record { op = CopyBuffer (record { 0 = 1 }) 0 (record { 0 = 2 }) 0 4 }
+
+-- two copies from one buffer to another conflict on the buffer that they write
+on_the_written : conflict_on 2 copied_over copied_over ≡ true
+on_the_written = refl
+
+-- and not on the one that both read
+off_the_read : conflict_on 1 copied_over copied_over ≡ false
+off_the_read = refl
 
 abbrev picture : ℕ → Kind
 picture id = Image 0 3 2

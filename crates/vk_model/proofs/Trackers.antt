@@ -8,9 +8,9 @@ use Rattle.vk_types.specs.declared.regions.Barrier.{Barrier}
 use Rattle.vk_types.specs.declared.ops.Node.{Node}
 use Rattle.vk_types.specs.Accesses.{in_common}
 use Rattle.vk_types.specs.Touches.{barrier_of}
-use Rattle.vk_model.specs.Log.{Item, Command, conflict, touches_object, touches_with, waits_for, holds_back, chained, node_edge, item_edge, HasEdge, Reaches, direct, ReachesNext, FindsLayouts, IsSound, IsOneQueue, Conflicts}
+use Rattle.vk_model.specs.Log.{Item, Command, conflict_on, touches_object, touches_with, waits_for, holds_back, chained, node_edge, item_edge, HasEdge, Reaches, direct, ReachesNext, FindsLayouts, IsSound, IsOneQueue, Conflicts}
 use Rattle.vk_model.specs.Tracking.{IsLastBarrier, IsTracked, IsSince, TouchesSince}
-use Rattle.vk_model.proofs.Clashes.{Shares, shares, none_is_some}
+use Rattle.vk_model.proofs.Clashes.{Shares, shares, ConflictsOn, conflicts_on, none_is_some}
 use Rattle.vk_model.proofs.Fences.{barrier_object}
 use Rattle.vk_model.proofs.Device.{get_front, get_next}
 use Rattle.vk_model.proofs.Growth.{reaches_longer, reaches_then, reaches_next, sound_next, Last, place_cases}
@@ -114,20 +114,20 @@ module _ (log : List Item) (one : IsOneQueue log) where
   pub node_next : (last : ℕ → Option ℕ) (n : Node) → IsSound log → FindsLayouts log n →
       ((id : ℕ) → touches_object n id ≡ true → IsTracked log id (last id)) →
       ((id place : ℕ) (l : IsLastBarrier log id place) → touches_object n id ≡ true → last id ≡ Some place → touches_with n id l.barrier.second ≡ true) →
-      ((id k q : ℕ) (a : Node) → touches_object n id ≡ true → IsSince (last id) k → slice_get log k ≡ Some (Command q a) → touches_object a id ≡ true → conflict a n ≡ false) →
+      ((id k q : ℕ) (a : Node) → touches_object n id ≡ true → IsSince (last id) k → slice_get log k ≡ Some (Command q a) → touches_object a id ≡ true → conflict_on id a n ≡ false) →
       IsSound (log ++ Command 0 n ∷ [])
   node_next last n sound finds tracked covered apart =
       sound_next log (Command 0 n) sound
       (λ q m same j p a at e.
       let here : n ≡ m = same_node same in
       let clash : Conflicts a n = subst (λ b. Conflicts a b) (sym here) e in
-      let s : Shares a n = shares a n clash in
-      reached j p a at clash s.id s.by_a s.by_b (last s.id) refl (tracked s.id s.by_b))
+      let s : ConflictsOn a n = conflicts_on a n clash in
+      reached j p a at s.id s.on s.by_a s.by_b (last s.id) refl (tracked s.id s.by_b))
       (λ q m same. subst (FindsLayouts log) (same_node same) finds)
     where
-      reached : (j p : ℕ) (a : Node) → slice_get log j ≡ Some (Command p a) → Conflicts a n → (id : ℕ) → touches_object a id ≡ true → touches_object n id ≡ true → (o : Option ℕ) → last id ≡ o → IsTracked log id o → ReachesNext log j (Command 0 n)
-      reached j p a at clash id ta tn None is t = absurd (both_ways (conflict a n) (apart id j p a tn (subst (λ o. IsSince o j) (sym is) tt) at ta) clash)
-      reached j p a at clash id ta tn (Some place) is l = go (cases_order j place)
+      reached : (j p : ℕ) (a : Node) → slice_get log j ≡ Some (Command p a) → (id : ℕ) → conflict_on id a n ≡ true → touches_object a id ≡ true → touches_object n id ≡ true → (o : Option ℕ) → last id ≡ o → IsTracked log id o → ReachesNext log j (Command 0 n)
+      reached j p a at id clash ta tn None is t = absurd (both_ways (conflict_on id a n) (apart id j p a tn (subst (λ o. IsSince o j) (sym is) tt) at ta) clash)
+      reached j p a at id clash ta tn (Some place) is l = go (cases_order j place)
         where
           through : (j ≡ place) ⊎ Reaches log j place → ReachesNext log j (Command 0 n)
           through chain = record { last = place; item = Command l.queue l.node; at = l.at; waits = edge_waits place l.queue l.node n l.at (from_barrier id place l n (covered id place l tn is)); chain = chain }
@@ -135,7 +135,7 @@ module _ (log : List Item) (one : IsOneQueue log) where
           go : (j ≡ place) ⊎ ((j < place) ⊎ (place < j)) → ReachesNext log j (Command 0 n)
           go (inl e) = through (inl e)
           go (inr (inl before)) = through (inr (l.before j p a before at ta))
-          go (inr (inr later)) = absurd (both_ways (conflict a n) (apart id j p a tn (subst (λ o. IsSince o j) (sym is) later) at ta) clash)
+          go (inr (inr later)) = absurd (both_ways (conflict_on id a n) (apart id j p a tn (subst (λ o. IsSince o j) (sym is) later) at ta) clash)
 
 -- An item that is no barrier of the object, and waits for its last one where it touches it, leaves the tracker right.
 pub tracked_next : (log : List Item) (id : ℕ) (last : Option ℕ) (x : Item) → IsTracked log id last →

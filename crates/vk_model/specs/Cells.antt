@@ -1,5 +1,5 @@
 -- The cell that each operation leaves at a place. 256 stands for a cell that is not defined.
-use Rattle.std.specs.Prelude.{ℕ, suc, ◌+◌, ◌-◌, ◌*◌, ◌/◌, ◌%◌, ◌^◌, ◌==◌, nat_lt, nat_le, min, max, ◌&&◌, Bool, true, false, ℤ, pos, negsuc, List, [], ◌∷◌, slice_index, Option, Some, None, if◌then◌else◌}
+use Rattle.std.specs.Prelude.{ℕ, suc, ◌+◌, ◌-◌, ◌*◌, ◌/◌, ◌%◌, ◌^◌, ◌==◌, nat_lt, nat_le, min, max, ◌&&◌, not, Bool, true, false, ℤ, pos, negsuc, List, [], ◌∷◌, slice_index, Option, Some, None, if◌then◌else◌}
 use Rattle.std.specs.List.{list_all}
 use Rattle.vk_types.specs.declared.handles.Kind.{Kind}
 use Rattle.vk_types.specs.declared.handles.Kind.TheVariants.{Buffer, Image}
@@ -145,10 +145,11 @@ scaled s0 s1 d0 d1 x =
 abbrev pub in_source : ℕ → ℕ → Option ℕ
 in_source size s = if nat_le origin s && nat_lt s (origin + size) then Some (s - origin) else None
 
--- the column that is read, where the column is in the destination and its source in the read image
+-- The column that is read, where the column is in the destination and its source in the read image. A source without
+-- width gives none, as a destination without width has no column.
 abbrev pub source_of : ℕ → ℤ → ℤ → ℤ → ℤ → ℕ → Option ℕ
 source_of size s0 s1 d0 d1 x =
-    if nat_le (min (moved d0) (moved d1)) (x + origin) && nat_lt (x + origin) (max (moved d0) (moved d1))
+    if not (moved s0 == moved s1) && nat_le (min (moved d0) (moved d1)) (x + origin) && nat_lt (x + origin) (max (moved d0) (moved d1))
     then in_source size (scaled (moved s0) (moved s1) (moved d0) (moved d1) (x + origin))
     else None
 

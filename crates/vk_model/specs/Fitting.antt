@@ -2,6 +2,7 @@
 use Rattle.std.specs.Prelude.{◌≡◌, ◌≢◌, ℕ, ◌+◌, ◌*◌, ◌<◌, ◌≤◌, ◌⊎◌, All, Option, Some, None, pos, IsSome}
 use Rattle.vk_types.specs.declared.handles.Kind.{Kind}
 use Rattle.vk_types.specs.declared.handles.Kind.TheVariants.{Buffer, Image}
+use Rattle.vk_types.specs.declared.accesses.Layout.{Layout}
 use Rattle.vk_types.specs.declared.regions.Rect.{Rect}
 use Rattle.vk_types.specs.declared.ops.Op.{Op}
 use Rattle.vk_types.specs.declared.ops.Op.TheVariants.{CopyBuffer, BufferToImage, ImageToBuffer, CopyImage, BlitImage, ClearImage, FillBuffer, PassPart}
@@ -57,6 +58,12 @@ format_in None = None
 format_in (Some (Buffer size)) = None
 format_in (Some (Image format width height)) = Some format
 
+-- the layouts that a barrier of an object of this kind names: none of a buffer, both of an image
+abbrev pub LayoutsFit : Option Kind → Option (Layout × Layout) → Type 0
+LayoutsFit None layouts = ⊥
+LayoutsFit (Some (Buffer size)) layouts = layouts ≡ None
+LayoutsFit (Some (Image format width height)) layouts = IsSome layouts
+
 -- An operation fits where what it touches is live and of the right kind, its regions lie inside, and ranges and images
 -- that are read are apart from those that are written.
 abbrev pub OpFits : (ℕ → Option Kind) → Op → Type 0
@@ -72,7 +79,7 @@ OpFits kinds (BlitImage src dst coords clip) = IsImage (kinds src.0) × HasRect 
 OpFits kinds (ClearImage image rect texel) = HasRect (kinds image.0) rect
 OpFits kinds (FillBuffer dst dst_at size byte) = HasRange (kinds dst.0) dst_at size
 OpFits kinds (PassPart _ _ image _ _ clears) = IsImage (kinds image.0) × All (λ clear. HasRect (kinds image.0) clear.rect) clears
-OpFits kinds (Op.Barrier b) = IsSome (kinds b.id.0)
+OpFits kinds (Op.Barrier b) = LayoutsFit (kinds b.id.0) b.layouts
 
 abbrev pub NodeFits : (ℕ → Option Kind) → Node → Type 0
 NodeFits kinds n = OpFits kinds n.op

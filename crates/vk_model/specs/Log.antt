@@ -57,6 +57,10 @@ conflict a b = some_clash (node_ranges a) (node_ranges b)
 abbrev pub Conflicts : Node → Node → Type 0
 Conflicts a b = conflict a b ≡ true
 
+-- so with a range of this object
+abbrev pub conflict_on : ℕ → Node → Node → Bool
+conflict_on id a b = list_any (λ r. (r.id == id) && list_any (clash r) (node_ranges b)) (node_ranges a)
+
 abbrev pub items_clash : Item → Item → Bool
 items_clash x y = some_clash (ranges x) (ranges y)
 

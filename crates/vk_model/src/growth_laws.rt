@@ -5,7 +5,7 @@ ghost use Rattle.vk_types.specs.declared.ops.Node.{Node};
 ghost use Rattle.vk_types.specs.Accesses.{in_common};
 ghost use Rattle.vk_types.specs.Touches.{barrier_of};
 ghost use Rattle.vk_model.specs.Cells.{place};
-ghost use Rattle.vk_model.specs.Log.{Item, Command, touches_object, touches_with, conflict as conflicts, Conflicts, FindsLayouts, IsSound, ReachesNext, IsOneQueue, is_guarded, NamesAll, IsFenced};
+ghost use Rattle.vk_model.specs.Log.{Item, Command, touches_object, touches_with, conflict_on, Conflicts, FindsLayouts, IsSound, ReachesNext, IsOneQueue, is_guarded, NamesAll, IsFenced};
 ghost use Rattle.vk_model.specs.Tracking.{IsLastBarrier, IsTracked, IsSince, TouchesSince};
 
 /// A log of one queue is in order where each node stands behind full barriers on its objects.
@@ -31,7 +31,7 @@ pub fn sound_log_begins_soundly()
 
 /// A tracker knows the last barrier of an object. A barrier that waits for all that touched the object since, or for the
 /// last barrier where nothing did, and a node that waits for the last barriers of its objects and conflicts with
-/// nothing since, leave the log sound and tracked.
+/// nothing since on the object of that barrier, leave the log sound and tracked.
 pub fn trackers_keep_logs_sound()
     ensures starts { (id : ℕ) → IsTracked [] id None }
     ensures barrier { (log : List Item) → IsOneQueue log → (id : ℕ) (last : Option ℕ) (n : Node) (y : Barrier) →
@@ -46,7 +46,7 @@ pub fn trackers_keep_logs_sound()
         ((id place : ℕ) (l : IsLastBarrier log id place) → touches_object n id ≡ true → last id ≡ Some place →
         touches_with n id l.barrier.second ≡ true) →
         ((id k q : ℕ) (a : Node) → touches_object n id ≡ true → IsSince (last id) k → slice_get log k ≡ Some (Command q a) →
-        touches_object a id ≡ true → conflicts a n ≡ false) →
+        touches_object a id ≡ true → conflict_on id a n ≡ false) →
         IsSound (log ++ Command 0 n ∷ []) }
     ensures kept { (log : List Item) (id : ℕ) (last : Option ℕ) (x : Item) → IsTracked log id last →
         ((q : ℕ) (n : Node) → x ≡ Command q n → touches_object n id ≡ true → barrier_of n ≡ None) →

@@ -68,16 +68,18 @@ fn in_source(size: u32, s: u128) -> Option<usize>
 }
 
 /// The column that is read for a column, where the column is in the destination and its source in the read image.
+/// A source without width gives none.
 fn source_of(size: u32, s0: i32, s1: i32, d0: i32, d1: i32, x: usize) -> Option<usize>
     requires { x < 2 ^ 32 }
     ensures value { result ≡ source_of size s0 s1 d0 d1 x }
     ensures bound { IfSome result (λ s. s < size) }
 {
+    let source = (moved(s0), moved(s1));
     let first = moved(d0);
     let last = moved(d1);
     let at = x as u64 + 0x8000_0000;
-    if first.min(last) <= at && at < first.max(last) {
-        in_source(size, scaled(moved(s0), moved(s1), first, last, at))
+    if source.0 != source.1 && first.min(last) <= at && at < first.max(last) {
+        in_source(size, scaled(source.0, source.1, first, last, at))
     } else {
         None
     }
