@@ -10,7 +10,7 @@ use Rattle.vk_types.specs.declared.ops.Op.{Op}
 use Rattle.vk_types.specs.declared.ops.Op.TheVariants.{CopyBuffer, BufferToImage, ImageToBuffer, CopyImage, BlitImage, ClearImage, FillBuffer, PassPart}
 use Rattle.vk_types.specs.declared.ops.Node.{Node}
 use Rattle.vk_types.specs.Touches.{op_touches, rows_size, buffer_texel}
-use Rattle.vk_model.specs.Fitting.{HasRange, HasRect, HasTexels, IsImage, format_in, OpFits, NodeFits}
+use Rattle.vk_model.specs.Fitting.{HasRange, HasRect, HasTexels, IsImage, format_in, LayoutsFit, OpFits, NodeFits}
 use Rattle.vk_model.specs.Log.{touches_object}
 use Rattle.vk_device.specs.declared.logged.Logged.{Logged}
 use Rattle.vk_device.specs.declared.logged.Logged.TheVariants.{Created, Wrote, Submitted, Ran, Fetched, Destroyed}
@@ -60,7 +60,7 @@ module _ (old new : Objects) where
     subst IsImage (sym (same image.0 (first image.0 false))) fits.0,
     subst (λ o. All (λ clear. HasRect o clear.rect) clears) (sym (same image.0 (first image.0 false))) fits.1,
   )
-  op_fits (Op.Barrier b) fits same = subst IsSome (sym (same b.id.0 (first b.id.0 false))) fits
+  op_fits (Op.Barrier b) fits same = subst (λ o. LayoutsFit o b.layouts) (sym (same b.id.0 (first b.id.0 false))) fits
 
   -- a node fits as long as what it touches stays
   pub fits_same : (n : Node) → NodeFits old n → ((id : ℕ) → touches_object n id ≡ true → new id ≡ old id) → NodeFits new n

@@ -12,7 +12,6 @@ use Rattle.vk_model.specs.Log.{Item, Command, IsPermitted}
 use Rattle.vk_model.proofs.Device.{get_front, get_next, order_inside}
 use Rattle.vk_model.proofs.Places.{contains_none, contains_cons_cases}
 use Rattle.vk_ready.specs.declared.nodes.WaitingNode.{WaitingNode}
-use Rattle.vk_ready.proofs.Removal.{reads_below, reads_above}
 use Rattle.vk_device.specs.declared.logged.Logged.{Logged}
 use Rattle.vk_device.specs.declared.logged.Logged.TheVariants.{Submitted, Ran}
 use Rattle.vk_device.specs.Journal.{accepted, node_at, kind_of}
@@ -23,6 +22,20 @@ use Rattle.vk_device.proofs.Starts.{accepted-push, start_next}
 use Rattle.vk_machine.proofs.Left.{left_stays, still_rising, old_place, place_stays}
 
 -- Lists
+
+reads_below : {X : Type 0} (xs : List X) (p k : ℕ) → k < p → slice_get (remove xs p) k ≡ slice_get xs k
+reads_below [] zero k lt = refl
+reads_below [] (suc p) k lt = refl
+reads_below (x ∷ xs) zero k lt = absurd (omega arith)
+reads_below (x ∷ xs) (suc p) zero lt = refl
+reads_below (x ∷ xs) (suc p) (suc k) lt = reads_below xs p k (omega arith)
+
+reads_above : {X : Type 0} (xs : List X) (p k : ℕ) → p ≤ k → slice_get (remove xs p) k ≡ slice_get xs (suc k)
+reads_above [] zero k le = refl
+reads_above [] (suc p) k le = refl
+reads_above (x ∷ xs) zero k le = refl
+reads_above (x ∷ xs) (suc p) zero le = absurd (omega arith)
+reads_above (x ∷ xs) (suc p) (suc k) le = reads_above xs p k (omega arith)
 
 data Split {X : Type 0} (xs ys : List X) (k : ℕ) (x : X) : Type 0 where
   front : k < length xs → slice_get xs k ≡ Some x → Split xs ys k x

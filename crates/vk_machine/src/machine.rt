@@ -15,8 +15,8 @@ use vk_objects::{Objects, execute};
 use vk_ready::{WaitingNode, WaitingNodes};
 use vk_types::{Batch, Handle, HandleId, Kind, Node, Stop};
 
-/// A device that keeps the bytes of its objects in memory, and is never lost. A turn costs the work of its node and a
-/// walk over the nodes that wait.
+/// A device that keeps the bytes of its objects in memory, and is never lost. A turn costs the work of its node, and
+/// a search for those nodes alone that waited for it.
 #[derive(Drop)]
 pub struct Machine {
     alloc: Global,

@@ -1,4 +1,5 @@
-pub mod Tallies
+pub mod Readiness
 pub mod Places
-pub mod Removal
-pub mod Lowering
+pub mod Rising
+pub mod Watching
+pub mod Order

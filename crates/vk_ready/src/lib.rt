@@ -4,11 +4,11 @@
 //! are those of `vk_model`.
 #![tactic(auto)]
 
-mod counting;
 mod edges;
 mod laws;
 mod list;
 mod nodes;
+mod watch;
 
 pub use edges::has_edge;
 pub use laws::{first_node_is_ready, ready_places_are_exact};

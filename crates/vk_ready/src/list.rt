@@ -1,35 +1,68 @@
 // The waiting nodes of a device.
-ghost use Rattle.std.specs.Prelude.{◌≡◌, ◌==◌, ◌+◌, ◌<◌, ◌≤◌, ◌↔◌, ℕ, [], ◌∷◌, ◌++◌, length, slice_get, Some, false, OnOk};
+ghost use Rattle.std.specs.Prelude.{◌≡◌, ◌==◌, ◌+◌, ◌<◌, ◌≤◌, ◌↔◌, ℕ, [], ◌∷◌, ◌++◌, length, slice_get, Some, None, false, OnOk, IfOk};
 ghost use Rattle.std.specs.List.{remove};
 ghost use Rattle.vk_ready.specs.declared.nodes.WaitingNode.{WaitingNode};
 ghost use Rattle.vk_ready.specs.Ready.{edge, ready_places, ready_place};
+ghost use Rattle.vk_ready.specs.Slots.{waiting_in, in_slot, AreGone};
 
 use crate::WaitingNode;
-use crate::counting::{count_edges, lower, place_of_zero};
+use crate::watch::{Watch, release, watch_next, withdraw};
 use std::alloc::{AllocError, Global};
 use std::marker::Model;
+use std::mem;
 
 /// Nodes that were accepted and have not run, in the order of acceptance. Contracts see the list of them and the room,
-/// which is how many more can be pushed without memory. For each node the number of earlier ones with an edge to it is
-/// kept, so that a call looks at each node at most once.
+/// which is how many more can be pushed without memory. Each node stands in a slot, which is empty once it ran. A node that
+/// is not ready names the last earlier one with an edge to it, and is looked at again only when that one ran.
 #[derive(Debug, Drop)]
 pub struct WaitingNodes {
-    nodes: Vec<WaitingNode>,
-    counts: Vec<usize>,
-    ready: usize,
+    alloc: Global,
+    slots: Vec<Option<WaitingNode>>,
+    watch: Watch,
+    first: usize,
+    count: usize,
 }
 
 impl Model for WaitingNodes {
-    ghost use Rattle.std.specs.Prelude.{◌≡◌, ◌-◌, min};
+    ghost use Rattle.std.specs.Prelude.{◌≡◌, ◌-◌, ◌≤◌, length, min};
     ghost use Rattle.std.specs.Vec.{vec_len, vec_capacity};
     ghost use Rattle.vk_ready.specs.Ready.{NodesAndRoom};
-    ghost use Rattle.vk_ready.specs.Counts.{IsCounted};
+    ghost use Rattle.vk_ready.specs.Slots.{waiting_in, AreGone, IsWatched};
 
     ghost Value = { NodesAndRoom };
 
-    ghost view = { λ w. record { nodes = w.nodes.items; room = min (vec_capacity w.nodes) (vec_capacity w.counts) - vec_len w.nodes } };
+    ghost view = { λ w. record { nodes = waiting_in w.slots.items; room = min (min (vec_capacity w.slots) (vec_capacity w.watch.holders)) (min (vec_capacity w.watch.ends) (vec_capacity w.watch.ready)) - vec_len w.slots } };
 
-    ghost invariant = { λ w. (vec_len w.counts ≡ vec_len w.nodes) × IsCounted w.nodes.items w.counts.items w.ready };
+    ghost invariant = { λ w. IsWatched w.slots.items w.watch.holders.items w.watch.ends.items w.watch.ready.items 0 0 0 × AreGone w.slots.items w.first × (w.count ≡ length (waiting_in w.slots.items)) × (vec_len w.slots ≤ vec_capacity w.watch.ready) × (w.first ≤ vec_len w.slots) };
+}
+
+/// Pushes what waits in slots.
+fn refill(waiting: &mut WaitingNodes, slots: Vec<Option<WaitingNode>>)
+    requires { length (waiting_in slots.items) ≤ waiting.old.room }
+    ensures nodes { waiting.new.nodes ≡ waiting.old.nodes ++ waiting_in slots.items }
+    ensures room { waiting.new.room + length (waiting_in slots.items) ≡ waiting.old.room }
+{
+    for slot in slots {
+        match slot {
+            Some(node) => waiting.push(node),
+            None => {}
+        }
+    }
+}
+
+/// The first slot from here on that has a node, or the end where none has.
+fn first_waiting(slots: &[Option<WaitingNode>], from: usize) -> usize
+    requires gone { AreGone slots.now from }
+    requires inside { from ≤ length slots.now }
+    ensures gone { AreGone slots.now result }
+    ensures inside { result ≤ length slots.now }
+{
+    for k in from..slots.len() {
+        if slots[k].is_some() {
+            return k;
+        }
+    }
+    slots.len()
 }
 
 impl WaitingNodes {
@@ -38,20 +71,58 @@ impl WaitingNodes {
         ensures { result.nodes ≡ [] }
     {
         WaitingNodes {
-            nodes: Vec::new(alloc),
-            counts: Vec::new(alloc),
-            ready: 0,
+            alloc,
+            slots: Vec::new(alloc),
+            watch: Watch {
+                holders: Vec::new(alloc),
+                ends: Vec::new(alloc),
+                ready: Vec::new(alloc),
+            },
+            first: 0,
+            count: 0,
         }
     }
 
-    /// Makes room for so many more nodes. For want of memory no room is lost.
+    /// No node, with room for so many.
+    fn with_room(alloc: Global, room: usize) -> Result<WaitingNodes, AllocError>
+        ensures { IfOk result (λ waiting. (waiting.nodes ≡ []) × (waiting.room ≡ room)) }
+    {
+        Ok(WaitingNodes {
+            alloc,
+            slots: Vec::with_capacity(alloc, room)?,
+            watch: Watch {
+                holders: Vec::with_capacity(alloc, room)?,
+                ends: Vec::with_capacity(alloc, room)?,
+                ready: Vec::with_capacity(alloc, room)?,
+            },
+            first: 0,
+            count: 0,
+        })
+    }
+
+    /// How many more nodes can be pushed without memory.
+    fn room(&self) -> usize
+        ensures { result ≡ self.now.room }
+    {
+        let nodes = self.slots.capacity().min(self.watch.holders.capacity());
+        let more = self.watch.ends.capacity().min(self.watch.ready.capacity());
+        nodes.min(more) - self.slots.len()
+    }
+
+    /// Makes room for so many more nodes, without the slots of those that ran. For want of memory nothing changes.
     pub fn reserve(&mut self, more: usize) -> Result<(), AllocError>
         ensures room { OnOk result (more ≤ self.new.room) }
         ensures kept { self.old.room ≤ self.new.room }
         ensures nodes { self.new.nodes ≡ self.old.nodes }
     {
-        self.nodes.reserve(more)?;
-        self.counts.reserve(more)?;
+        if more <= self.room() {
+            return Ok(());
+        }
+        let room = more.saturating_add(self.count).saturating_mul(2);
+        let mut fresh = WaitingNodes::with_room(self.alloc, room)?;
+        let slots = mem::replace(&mut self.slots, Vec::new(self.alloc));
+        refill(&mut fresh, slots);
+        *self = fresh;
         Ok(())
     }
 
@@ -61,25 +132,22 @@ impl WaitingNodes {
         ensures nodes { self.new.nodes ≡ self.old.nodes ++ node ∷ [] }
         ensures room { self.new.room + 1 ≡ self.old.room }
     {
-        let count = count_edges(self.nodes.as_slice(), &node);
-        self.nodes.push_reserved(node);
-        self.counts.push_reserved(count);
-        if count == 0 {
-            self.ready += 1;
-        }
+        watch_next(&mut self.watch, self.slots.as_slice(), self.first, &node);
+        self.slots.push_reserved(Some(node));
+        self.count += 1;
     }
 
     /// How many nodes wait.
     pub fn len(&self) -> usize
         ensures { result ≡ length self.now.nodes }
     {
-        self.nodes.len()
+        self.count
     }
 
     pub fn is_empty(&self) -> bool
         ensures { result ≡ (length self.now.nodes == 0) }
     {
-        self.nodes.is_empty()
+        self.count == 0
     }
 
     /// How many nodes are ready: at least one where a node is left. This looks at no node.
@@ -87,28 +155,33 @@ impl WaitingNodes {
         ensures count { result ≡ length (ready_places self.now.nodes) }
         ensures some { (0 < result) ↔ (0 < length self.now.nodes) }
     {
-        self.ready
+        self.watch.ready.len()
     }
 
     /// Takes out the ready node of this number, counted from 0 in the order of acceptance. The others keep their order.
-    /// This takes no memory.
+    /// This takes no memory, and looks at the nodes that waited for the one taken.
     pub fn take(&mut self, number: usize) -> WaitingNode
         requires { number < length (ready_places self.old.nodes) }
         ensures node { slice_get self.old.nodes (ready_place self.old.nodes number) ≡ Some result }
         ensures others { self.new.nodes ≡ remove self.old.nodes (ready_place self.old.nodes number) }
         ensures ready { (j : ℕ) (x : WaitingNode) → j < ready_place self.old.nodes number → slice_get self.old.nodes j ≡ Some x → edge x result ≡ false }
-        ensures room { self.new.room ≡ self.old.room + 1 }
+        ensures room { self.new.room ≡ self.old.room }
     {
-        let place = place_of_zero(self.counts.as_slice(), number);
-        let taken = self.nodes.remove(place);
-        let _ = self.counts.remove(place);
-        let freed = lower(
-            self.counts.as_mut_slice(),
-            self.nodes.as_slice(),
-            place,
-            &taken,
+        let slot = withdraw(&mut self.watch.ready, number);
+        let taken = match mem::replace(&mut self.slots[slot], None) {
+            Some(node) => node,
+            None => unreachable!(),
+        };
+        self.first = first_waiting(self.slots.as_slice(), self.first);
+        let end = self.watch.ends[slot].min(self.slots.len());
+        release(
+            &mut self.watch,
+            self.slots.as_slice(),
+            self.first,
+            slot,
+            end,
         );
-        self.ready = self.ready - 1 + freed;
+        self.count -= 1;
         taken
     }
 }

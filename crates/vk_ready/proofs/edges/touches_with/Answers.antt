@@ -2,7 +2,7 @@ use Rattle.std.proofs.Common.{eqb, sym, ◌∙◌}
 use Rattle.std.specs.Prelude.{◌&&◌}
 use Rattle.vk_types.specs.Accesses.{in_common}
 use Rattle.vk_types.specs.Touches.{touches}
-use Rattle.vk_ready.proofs.Tallies.{none_more}
+use Rattle.vk_ready.proofs.Readiness.{none_more}
 use Rattle.vk_ready.proofs.edges.touches_with.Goals as goal
 
 pub loop-i-preserved : goal.loop-i-preserved

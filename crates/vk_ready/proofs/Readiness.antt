@@ -1,15 +1,12 @@
--- The counts of a list, and which of its nodes they show to be ready.
+-- Which nodes of a list are ready.
 use Rattle.std.proofs.Common.{◌≡◌, ℕ, zero, suc, ◌+◌, ◌<◌, ◌≤◌, List, [], ◌∷◌, ◌++◌, length, get_or, take, Bool, true, false, cond, eqb, refl, sym, ◌∙◌, ap, zero-add, arith, inl, inr}
-use Rattle.std.specs.Prelude.{not, ◌||◌, ◌⊎◌, ◌↔◌, Some, slice_get, count_by}
+use Rattle.std.specs.Prelude.{not, ◌||◌, ◌⊎◌, ◌↔◌, Some, slice_get}
 use Rattle.std.specs.List.{list_any}
 use Rattle.std.proofs.lemmas.Bool.{ne_eqb, false≢true, cases_lt, not-true, not_from_false, or_from, or_parts}
 use Rattle.std.proofs.lemmas.List.Folds.{list_any_more}
 use Rattle.std.proofs.lemmas.Option.{slice_get_within, slice_get_past, get_or_from_slice_get}
-use Rattle.std.proofs.lemmas.List.{append_assoc, append-nil}
-use Rattle.std.proofs.lemmas.List.Sums.{sum_by-cons}
 use Rattle.vk_ready.specs.declared.nodes.WaitingNode.{WaitingNode}
 use Rattle.vk_ready.specs.Ready.{edge, is_free, is_ready, ready_places}
-use Rattle.vk_ready.specs.Counts.{edge_count, counts_after, counts}
 
 -- what stands at a place of a list
 pub record At {X : Type 0} (xs : List X) (k : ℕ) : Type 0 where
@@ -21,48 +18,10 @@ item_at [] k lt = absurd (omega arith)
 item_at (x ∷ xs) zero lt = record { item = x; is = refl }
 item_at (x ∷ xs) (suc k) lt = let at : At xs k = item_at xs k (omega arith) in record { item = at.item; is = at.is }
 
--- nothing passes exactly where as much as passes is counted 0
-pub none_is_zero : {X : Type 0} (p : X → Bool) (xs : List X) → not (list_any p xs) ≡ eqb (count_by p xs) 0
-none_is_zero p [] = refl
-none_is_zero p (x ∷ xs) = go (p x) (none_is_zero p xs) (sum_by-cons (λ y. cond (p y) 1 0) x xs)
-  where
-    go : (b : Bool) → not (list_any p xs) ≡ eqb (count_by p xs) 0 → count_by p (x ∷ xs) ≡ cond b 1 0 + count_by p xs → not (b || list_any p xs) ≡ eqb (count_by p (x ∷ xs)) 0
-    go true rest e = sym (ne_eqb (count_by p (x ∷ xs)) 0 (λ z. omega arith))
-    go false rest e = rest ∙ ap (λ n. eqb n 0) (sym (e ∙ zero-add (count_by p xs)))
-
 pub none_passes : {X : Type 0} (p : X → Bool) (xs : List X) → list_any p xs ≡ false → (j : ℕ) (x : X) → slice_get xs j ≡ Some x → p x ≡ false
 none_passes p [] none j x at = cc
 none_passes p (y ∷ xs) none zero x at = let same : y ≡ x = cc in ap p (sym same) ∙ (or_parts (p y) (list_any p xs) none).0
 none_passes p (y ∷ xs) none (suc j) x at = none_passes p xs (or_parts (p y) (list_any p xs) none).1 j x at
-
-pub length_counts : (earlier list : List WaitingNode) → length (counts_after earlier list) ≡ length list
-length_counts earlier [] = refl
-length_counts earlier (x ∷ list) = ap suc (length_counts (earlier ++ x ∷ []) list)
-
-count_at : (earlier list : List WaitingNode) (k : ℕ) (y : WaitingNode) → slice_get list k ≡ Some y → get_or (counts_after earlier list) k 0 ≡ edge_count (earlier ++ take k list) y
-count_at earlier [] k y at = cc
-count_at earlier (x ∷ list) zero y at = let same : x ≡ y = cc in ap (edge_count earlier) same ∙ ap (λ l. edge_count l y) (sym (append-nil earlier))
-count_at earlier (x ∷ list) (suc k) y at = count_at (earlier ++ x ∷ []) list k y at ∙ ap (λ l. edge_count l y) (append_assoc earlier (x ∷ []) (take k list))
-
--- the count at a place
-pub count_of : (list : List WaitingNode) (k : ℕ) (y : WaitingNode) → slice_get list k ≡ Some y → get_or (counts list) k 0 ≡ edge_count (take k list) y
-count_of list k y at = count_at [] list k y at
-
-counts_push_after : (earlier list : List WaitingNode) (x : WaitingNode) → counts_after earlier (list ++ x ∷ []) ≡ counts_after earlier list ++ edge_count (earlier ++ list) x ∷ []
-counts_push_after earlier [] x = ap (λ l. edge_count l x ∷ []) (sym (append-nil earlier))
-counts_push_after earlier (y ∷ list) x =
-    ap (λ l. edge_count earlier y ∷ l) (counts_push_after (earlier ++ y ∷ []) list x ∙ ap (λ l. counts_after (earlier ++ y ∷ []) list ++ edge_count l x ∷ []) (append_assoc earlier (y ∷ []) list))
-
--- a node behind the others adds its own count
-pub counts_push : (list : List WaitingNode) (x : WaitingNode) → counts (list ++ x ∷ []) ≡ counts list ++ edge_count list x ∷ []
-counts_push list x = counts_push_after [] list x
-
--- a node is ready where its count is 0
-pub ready_is_zero : (list : List WaitingNode) (k : ℕ) → k < length list → is_ready list k ≡ eqb (get_or (counts list) k 0) 0
-ready_is_zero list k lt = go (item_at list k lt)
-  where
-    go : At list k → is_ready list k ≡ eqb (get_or (counts list) k 0) 0
-    go at = ap (is_free (take k list)) at.is ∙ none_is_zero (λ x. edge x at.item) (take k list) ∙ ap (λ n. eqb n 0) (sym (count_of list k at.item at.is))
 
 take_reads : {X : Type 0} (xs : List X) (k j : ℕ) (x : X) → j < k → slice_get xs j ≡ Some x → slice_get (take k xs) j ≡ Some x
 take_reads [] k j x lt at = cc

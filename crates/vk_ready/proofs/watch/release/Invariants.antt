@@ -1,0 +1,13 @@
+use Rattle.std.proofs.Common.{◌≡◌}
+use Rattle.std.specs.Vec.{vec_capacity}
+use Rattle.vk_ready.specs.Slots.{IsWatched}
+use Rattle.vk_ready.proofs.watch.release.Given as goal
+
+-- the slots so far do not name the one that ran
+abbrev pub invariant-loop-slot : goal.invariant-loop-slot
+invariant-loop-slot l = record {
+  kept : IsWatched l.slots l.watch.holders.items l.watch.ends.items l.watch.ready.items l.gone l.slot l.end;
+  holders : vec_capacity l.watch.holders ≡ vec_capacity l.initial.watch.holders;
+  ends : vec_capacity l.watch.ends ≡ vec_capacity l.initial.watch.ends;
+  ready : vec_capacity l.watch.ready ≡ vec_capacity l.initial.watch.ready;
+}
