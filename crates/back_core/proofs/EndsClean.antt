@@ -1,10 +1,9 @@
--- A run of one group that let go of all that it made by giving it leaves no object on the device.
-use Rattle.std.proofs.Common.{◌≡◌, ℕ, zero, suc, length, ◌==◌, Bool, true, false, cond, List, [], ◌∷◌, ◌++◌, refl, sym, ap, ◌∙◌, subst, inl, inr, arith}
-use Rattle.std.specs.Prelude.{◌⊎◌, ◌<◌, slice_get, fold, ◌≤◌, nat_le, not, Some, None, Option, IsSome, slice_index}
+-- A run whose groups let go of all that they made by giving it leaves no object on the device.
+use Rattle.std.proofs.Common.{◌≡◌, ℕ, zero, suc, ◌+◌, take, length, ◌==◌, Bool, true, false, cond, List, [], ◌∷◌, ◌++◌, refl, sym, ap, ◌∙◌, subst, inl, inr, arith}
+use Rattle.std.specs.Prelude.{◌⊎◌, ◌<◌, slice_get, fold, ◌≤◌, nat_le, Some, None, Option, IsSome, slice_index}
 use Rattle.std.specs.List.{filter}
-use Rattle.std.proofs.lemmas.Bool.{cases_eq, cases_Bool, cases_order, cond-true, cond-false, eq-eqb, ne_eqb, eqb-true, false≢true, and_from, le-leb}
+use Rattle.std.proofs.lemmas.Bool.{cases_eq, cases_Bool, cases_order, cond-true, cond-false, eq-eqb, ne_eqb, false≢true, and_from, le-leb}
 use Rattle.std.proofs.lemmas.List.{append-nil, append_assoc, take_all, nil_from_length}
-use Rattle.std.proofs.lemmas.List.Elements.{filter-append}
 use Rattle.std.proofs.lemmas.Option.{none-some}
 use Rattle.vk_types.specs.declared.handles.HandleId.{HandleId}
 use Rattle.vk_types.specs.declared.handles.Kind.{Kind}
@@ -21,16 +20,18 @@ use Rattle.submit_queue.specs.Histories as queue
 use Rattle.back_core.specs.declared.back_event.BackEvent.{BackEvent}
 use Rattle.back_core.specs.declared.back_event.BackEvent.TheVariants.{Created, Wrote, Enqueued, Submitted, Ran, Retired, Fetched, Gave, Abandoned, Cleaned, Closing, Stopped}
 use Rattle.back_core.specs.Link.{Link, created}
-use Rattle.back_core.specs.History.{queue_history, completed, own_part, link_of, is_outside, outside_of}
-use Rattle.back_core.specs.Run.{garbage_of, garbage_after, covered_in, submission, destroys, logged_by, journal_of, IsRun}
-use Rattle.back_core.specs.Steps.{AreCompleted, IsAllGiven, cleaned}
+use Rattle.back_core.specs.History.{queue_history, completed, own_part, link_of}
+use Rattle.back_core.specs.Run.{garbage_of, garbage_after, without_covered, covered_in, submission, destroys, logged_by, journal_of, MayHappen, IsRun}
+use Rattle.back_core.specs.Steps.{AreCompleted, IsAllGiven, IsWhole, CleansWhole, cleaned}
 use Rattle.back_core.proofs.Sees.{part_then, if_own_is, group_of}
 use Rattle.back_core.proofs.Runs.{of_each_run, journal_nil, journal_then, garbage_then}
 use Rattle.back_core.proofs.Parts.{pushed}
 use Rattle.back_core.proofs.Going.{numbered, completed_below}
-use Rattle.back_core.proofs.Made.{put_here}
+use Rattle.back_core.proofs.Made.{put_here, IsMade}
+use Rattle.back_core.proofs.Known.{known}
+use Rattle.back_core.proofs.Whole.{whole_before}
 use Rattle.back_core.proofs.Adding.{made_still}
-use Rattle.back_core.proofs.Piles.{IsIn, in_front, in_back}
+use Rattle.back_core.proofs.Piles.{IsIn, in_front, in_back, left_or_covered}
 use Rattle.back_core.proofs.Given.{Gives, given_before, given_distinct}
 use Rattle.back_core.proofs.Lives.{HasItem, item_uses}
 
@@ -68,34 +69,26 @@ kept_by p (x ∷ xs) item (inr more) t = go (cases_Bool (p x)) (kept_by p xs ite
     go (inl y) there = subst (IsIn item) (sym (cond-true (p x) (x ∷ filter p xs) (filter p xs) y)) (inr there)
     go (inr n) there = subst (IsIn item) (sym (cond-false (p x) (x ∷ filter p xs) (filter p xs) n)) there
 
--- Nothing outside
+-- Creates
 
-both_nil : (xs ys : List BackEvent) → xs ++ ys ≡ [] → (xs ≡ []) × (ys ≡ [])
-both_nil [] ys none = (refl, none)
-both_nil (x ∷ xs) ys none = absurd (cc none)
+abbrev IsNoCreate : BackEvent → ℕ → Type 0
+IsNoCreate (Created group id kind) i = i ≡ id.0 → ⊥
+IsNoCreate (Wrote group id at bytes) i = Unit {0}
+IsNoCreate (Enqueued b) i = Unit {0}
+IsNoCreate Submitted i = Unit {0}
+IsNoCreate (Ran batch node) i = Unit {0}
+IsNoCreate (Retired serial) i = Unit {0}
+IsNoCreate (Fetched group id at bytes) i = Unit {0}
+IsNoCreate (Gave group id uses) i = Unit {0}
+IsNoCreate (Abandoned group id) i = Unit {0}
+IsNoCreate (Cleaned read destroyed) i = Unit {0}
+IsNoCreate Closing i = Unit {0}
+IsNoCreate (Stopped stop) i = Unit {0}
 
-one_out : (b : Bool) (e : BackEvent) → cond b (e ∷ []) [] ≡ [] → b ≡ false
-one_out true e none = absurd (cc none)
-one_out false e none = refl
+-- Each live object was made by a group
 
--- where nothing is outside, nothing was before, nor is the last event
-pub inside_before : (h : List BackEvent) (g : ℕ) (e : BackEvent) → outside_of (h ++ e ∷ []) g ≡ [] → (outside_of h g ≡ []) × (is_outside g e ≡ false)
-unfolding outside_of
-inside_before h g e none =
-    let both = both_nil (filter (is_outside g) h) (filter (is_outside g) (e ∷ [])) (sym (filter-append (is_outside g) h (e ∷ [])) ∙ none) in
-    (both.0, one_out (is_outside g e) e both.1)
-
-not_not : (b : Bool) → not b ≡ false → b ≡ true
-not_not true is = refl
-not_not false is = absurd (false≢true (sym is))
-
-own_group : (group g : ℕ) → not (group == g) ≡ false → group ≡ g
-own_group group g is = eqb-true group g (not_not (group == g) is)
-
--- Each live object was made by the group
-
-abbrev MadeOrGone : ℕ → List BackEvent → ℕ → Type 0
-MadeOrGone g h i = (kind_of (journal_of h) i ≡ None) ⊎ IsSome ((own_part h g).kinds i)
+abbrev MadeOrGone : List BackEvent → ℕ → Type 0
+MadeOrGone h i = (kind_of (journal_of h) i ≡ None) ⊎ ((g : ℕ) × IsSome ((own_part h g).kinds i))
 
 made_now : (h : List BackEvent) (g : ℕ) (id : HandleId) (kind : Kind) → IsSome ((own_part (h ++ Created g id kind ∷ []) g).kinds id.0)
 made_now h g id kind =
@@ -107,73 +100,145 @@ nothing_live : (i : ℕ) → kind_of [] i ≡ None
 unfolding kind_of
 nothing_live i = refl
 
-pub made_or_gone : (g : ℕ) (h : List BackEvent) → IsRun h → outside_of h g ≡ [] → (i : ℕ) → MadeOrGone g h i
-made_or_gone g = of_each_run (λ h. outside_of h g ≡ [] → (i : ℕ) → MadeOrGone g h i) (λ none i. inl (ap (λ j. kind_of j i) journal_nil ∙ nothing_live i)) (λ h e run may so_far none i. let before = inside_before h g e none in step h e before.1 i (so_far before.0 i))
+-- an object that is not live stays so, but for a create
+module _ (h : List BackEvent) (i : ℕ) (none : kind_of (journal_of h) i ≡ None) where
+  nothing : kind_of (journal_of h ++ []) i ≡ None
+  nothing = ap (λ j. kind_of j i) (append-nil (journal_of h)) ∙ none
+
+  accepted : (o : Option Batch) → kind_of (journal_of h ++ submission o) i ≡ None
+  accepted None = nothing
+  accepted (Some b) = kind_after (journal_of h) (logged.Submitted b) i ∙ none
+
+  still_gone : (e : BackEvent) → IsNoCreate e i → kind_of (journal_of h ++ logged_by h e) i ≡ None
+  still_gone (Created group id kind) other = kind_after (journal_of h) (logged.Created id kind) i ∙ cond-false (i == id.0) (Some kind) (kind_of (journal_of h) i) (ne_eqb i id.0 other) ∙ none
+  still_gone (Wrote group id at bytes) other = kind_after (journal_of h) (logged.Wrote id at bytes) i ∙ none
+  still_gone (Enqueued b) other = nothing
+  still_gone Submitted other = accepted (queue.first_flushed (queue_history h))
+  still_gone (Ran batch node) other = kind_after (journal_of h) (logged.Ran batch node) i ∙ none
+  still_gone (Retired serial) other = nothing
+  still_gone (Fetched group id at bytes) other = kind_after (journal_of h) (logged.Fetched id at bytes) i ∙ none
+  still_gone (Gave group id uses) other = nothing
+  still_gone (Abandoned group id) other = nothing
+  still_gone (Cleaned read destroyed) other = gone_stays (take destroyed (covered_in h read)) (journal_of h) i none
+  still_gone Closing other = nothing
+  still_gone (Stopped stop) other = nothing
+
+  gone_then : (e : BackEvent) → IsNoCreate e i → kind_of (journal_of (h ++ e ∷ [])) i ≡ None
+  gone_then e other = ap (λ j. kind_of j i) (journal_then h e) ∙ still_gone e other
+
+pub made_or_gone : (h : List BackEvent) → IsRun h → (i : ℕ) → MadeOrGone h i
+made_or_gone = of_each_run (λ h. (i : ℕ) → MadeOrGone h i) (λ i. inl (ap (λ j. kind_of j i) journal_nil ∙ nothing_live i)) (λ h e run may so_far i. go h e i (no_create e i) (so_far i))
   where
-    -- an event after which no other object is live
-    same : (h : List BackEvent) (e : BackEvent) (i : ℕ) → (kind_of (journal_of h) i ≡ None → kind_of (journal_of h ++ logged_by h e) i ≡ None) → MadeOrGone g h i → MadeOrGone g (h ++ e ∷ []) i
-    same h e i keeps (inl none) = inl (ap (λ j. kind_of j i) (journal_then h e) ∙ keeps none)
-    same h e i keeps (inr some) = inr (made_still h e g i some)
+    -- the event makes the object, or does not
+    Creates : BackEvent → ℕ → Type 0
+    Creates e i = (group : ℕ) × (id : HandleId) × (kind : Kind) × (e ≡ Created group id kind) × (i ≡ id.0)
 
-    nothing : (h : List BackEvent) (i : ℕ) → kind_of (journal_of h) i ≡ None → kind_of (journal_of h ++ []) i ≡ None
-    nothing h i none = ap (λ j. kind_of j i) (append-nil (journal_of h)) ∙ none
-
-    accepted : (h : List BackEvent) (o : Option Batch) (i : ℕ) → kind_of (journal_of h) i ≡ None → kind_of (journal_of h ++ submission o) i ≡ None
-    accepted h None i none = nothing h i none
-    accepted h (Some b) i none = kind_after (journal_of h) (logged.Submitted b) i ∙ none
-
-    step : (h : List BackEvent) (e : BackEvent) → is_outside g e ≡ false → (i : ℕ) → MadeOrGone g h i → MadeOrGone g (h ++ e ∷ []) i
-    step h (Created group id kind) out i so_far = go (cases_eq i id.0)
+    no_create : (e : BackEvent) (i : ℕ) → IsNoCreate e i ⊎ Creates e i
+    no_create (Created group id kind) i = by_case (cases_eq i id.0)
       where
-        own : group ≡ g
-        own = own_group group g out
+        by_case : (i ≡ id.0) ⊎ (i ≡ id.0 → ⊥) → (i ≡ id.0 → ⊥) ⊎ Creates (Created group id kind) i
+        by_case (inl here) = inr (group, id, kind, refl, here)
+        by_case (inr other) = inl other
+    no_create (Wrote group id at bytes) i = inl tt
+    no_create (Enqueued b) i = inl tt
+    no_create Submitted i = inl tt
+    no_create (Ran batch node) i = inl tt
+    no_create (Retired serial) i = inl tt
+    no_create (Fetched group id at bytes) i = inl tt
+    no_create (Gave group id uses) i = inl tt
+    no_create (Abandoned group id) i = inl tt
+    no_create (Cleaned read destroyed) i = inl tt
+    no_create Closing i = inl tt
+    no_create (Stopped stop) i = inl tt
 
-        go : (i ≡ id.0) ⊎ (i ≡ id.0 → ⊥) → MadeOrGone g (h ++ Created group id kind ∷ []) i
-        go (inl here) = inr (subst (λ k. IsSome ((own_part (h ++ Created group id kind ∷ []) k).kinds i)) own (subst (λ j. IsSome ((own_part (h ++ Created group id kind ∷ []) group).kinds j)) (sym here) (made_now h group id kind)))
-        go (inr other) = same h (Created group id kind) i (λ none. kind_after (journal_of h) (logged.Created id kind) i ∙ cond-false (i == id.0) (Some kind) (kind_of (journal_of h) i) (ne_eqb i id.0 other) ∙ none) so_far
-    step h (Wrote group id at bytes) out i so_far = same h (Wrote group id at bytes) i (λ none. kind_after (journal_of h) (logged.Wrote id at bytes) i ∙ none) so_far
-    step h (Enqueued b) out i so_far = same h (Enqueued b) i (nothing h i) so_far
-    step h Submitted out i so_far = same h Submitted i (accepted h (queue.first_flushed (queue_history h)) i) so_far
-    step h (Ran batch node) out i so_far = same h (Ran batch node) i (λ none. kind_after (journal_of h) (logged.Ran batch node) i ∙ none) so_far
-    step h (Retired serial) out i so_far = same h (Retired serial) i (nothing h i) so_far
-    step h (Fetched group id at bytes) out i so_far = same h (Fetched group id at bytes) i (λ none. kind_after (journal_of h) (logged.Fetched id at bytes) i ∙ none) so_far
-    step h (Gave group id uses) out i so_far = same h (Gave group id uses) i (nothing h i) so_far
-    step h (Abandoned group id) out i so_far = same h (Abandoned group id) i (nothing h i) so_far
-    step h (Cleaned read destroyed) out i so_far = absurd (false≢true (sym out))
-    step h Closing out i so_far = same h Closing i (nothing h i) so_far
-    step h (Stopped stop) out i so_far = same h (Stopped stop) i (nothing h i) so_far
+    go : (h : List BackEvent) (e : BackEvent) (i : ℕ) → IsNoCreate e i ⊎ Creates e i → MadeOrGone h i → MadeOrGone (h ++ e ∷ []) i
+    go h e i (inr new) so_far = inr (new.0, subst (λ d. IsSome ((own_part (h ++ d ∷ []) new.0).kinds i)) (sym new.3) (subst (λ j. IsSome ((own_part (h ++ Created new.0 new.1 new.2 ∷ []) new.0).kinds j)) (sym new.4) (made_now h new.0 new.1 new.2)))
+    go h e i (inl other) (inl none) = inl (gone_then h i none e other)
+    go h e i (inl other) (inr made) = inr (made.0, made_still h e made.0 i made.1)
 
--- Each object that was given waits
+-- Each object that was given waits, or is destroyed
 
-pub given_waits : (g : ℕ) (h : List BackEvent) → IsRun h → outside_of h g ≡ [] → (i : ℕ) (uses : List QueueSerial) → (own_part h g).given i ≡ Some uses → HasItem h i
-given_waits g = of_each_run (λ h. outside_of h g ≡ [] → (i : ℕ) (uses : List QueueSerial) → (own_part h g).given i ≡ Some uses → HasItem h i) (λ none i uses given. absurd (none-some uses given))
-    (λ h e run may so_far none i uses given. let before = inside_before h g e none in step h e before.1 i uses (so_far before.0 i uses) (given_before h g i uses e given))
+abbrev WaitsOrGone : List BackEvent → ℕ → Type 0
+WaitsOrGone h i = HasItem h i ⊎ (kind_of (journal_of h) i ≡ None)
+
+abbrev AllWait : List BackEvent → Type 0
+AllWait h = (g i : ℕ) (uses : List QueueSerial) → (own_part h g).given i ≡ Some uses → WaitsOrGone h i
+
+pub given_waits : (h : List BackEvent) → IsRun h → CleansWhole h → AllWait h
+given_waits = of_each_run (λ h. CleansWhole h → AllWait h) (λ whole g i uses given. absurd (none-some uses given))
+    (λ h e run may so_far whole g i uses given. let before = whole_before h e whole in go h e run may before.1 g i uses (so_far before.0 g i uses) (given_before h g i uses e given))
   where
+    -- an object that was made is not made again
+    no_more : (h : List BackEvent) (e : BackEvent) → IsRun h → MayHappen h e → (g i : ℕ) → IsMade (own_part h g) i → IsNoCreate e i
+    no_more h (Created group id kind) run may g i made = λ here. omega (arith, (known h run g).low i made.0 made.1, here, may.0)
+    no_more h (Wrote group id at bytes) run may g i made = tt
+    no_more h (Enqueued b) run may g i made = tt
+    no_more h Submitted run may g i made = tt
+    no_more h (Ran batch node) run may g i made = tt
+    no_more h (Retired serial) run may g i made = tt
+    no_more h (Fetched group id at bytes) run may g i made = tt
+    no_more h (Gave group id uses) run may g i made = tt
+    no_more h (Abandoned group id) run may g i made = tt
+    no_more h (Cleaned read destroyed) run may g i made = tt
+    no_more h Closing run may g i made = tt
+    no_more h (Stopped stop) run may g i made = tt
+
     -- an event that leaves the garbage
-    same : (h : List BackEvent) (e : BackEvent) (i : ℕ) (uses : List QueueSerial) → garbage_after (garbage_of h) e ≡ garbage_of h → ((own_part h g).given i ≡ Some uses → HasItem h i) → ((own_part h g).given i ≡ Some uses) ⊎ ⊥ → HasItem (h ++ e ∷ []) i
-    same h e i uses is so_far (inr none) = absurd none
-    same h e i uses is so_far (inl given) = let has : HasItem h i = so_far given in (has.0, subst (IsIn has.0) (sym (garbage_then h e ∙ is)) has.1, has.2)
+    same : (h : List BackEvent) (e : BackEvent) (i : ℕ) → garbage_after (garbage_of h) e ≡ garbage_of h → HasItem h i → WaitsOrGone (h ++ e ∷ []) i
+    same h e i is has = inl (has.0, subst (IsIn has.0) (sym (garbage_then h e ∙ is)) has.1, has.2)
 
-    step : (h : List BackEvent) (e : BackEvent) → is_outside g e ≡ false → (i : ℕ) (uses : List QueueSerial) → ((own_part h g).given i ≡ Some uses → HasItem h i) → ((own_part h g).given i ≡ Some uses) ⊎ Gives e g i uses → HasItem (h ++ e ∷ []) i
-    step h (Created group id kind) out i uses so_far = same h (Created group id kind) i uses refl so_far
-    step h (Wrote group id at bytes) out i uses so_far = same h (Wrote group id at bytes) i uses refl so_far
-    step h (Enqueued b) out i uses so_far = same h (Enqueued b) i uses refl so_far
-    step h Submitted out i uses so_far = same h Submitted i uses refl so_far
-    step h (Ran batch node) out i uses so_far = same h (Ran batch node) i uses refl so_far
-    step h (Retired serial) out i uses so_far = same h (Retired serial) i uses refl so_far
-    step h (Fetched group id at bytes) out i uses so_far = same h (Fetched group id at bytes) i uses refl so_far
-    step h (Gave group id us) out i uses so_far = go
+    -- what waits goes on waiting, or is destroyed by a cleanup that is whole
+    waits : (h : List BackEvent) (e : BackEvent) (i : ℕ) → IsWhole h e → HasItem h i → WaitsOrGone (h ++ e ∷ []) i
+    waits h (Created group id kind) i whole has = same h (Created group id kind) i refl has
+    waits h (Wrote group id at bytes) i whole has = same h (Wrote group id at bytes) i refl has
+    waits h (Enqueued b) i whole has = same h (Enqueued b) i refl has
+    waits h Submitted i whole has = same h Submitted i refl has
+    waits h (Ran batch node) i whole has = same h (Ran batch node) i refl has
+    waits h (Retired serial) i whole has = same h (Retired serial) i refl has
+    waits h (Fetched group id at bytes) i whole has = same h (Fetched group id at bytes) i refl has
+    waits h (Gave group id uses) i whole has =
+        inl (has.0, subst (IsIn has.0) (sym (garbage_then h (Gave group id uses))) (in_front (garbage_of h) (record { handle = id; uses = uses } ∷ []) has.0 has.1), has.2)
+    waits h (Abandoned group id) i whole has = same h (Abandoned group id) i refl has
+    waits h (Cleaned read destroyed) i whole has = by_case (left_or_covered read (destroyed + 1) (garbage_of h) has.0 has.1)
       where
-        in_all : (item : Garbage) → IsIn item (garbage_of h ++ record { handle = id; uses = us } ∷ []) → IsIn item (garbage_of (h ++ Gave group id us ∷ []))
-        in_all item is = subst (IsIn item) (sym (garbage_then h (Gave group id us))) is
+        all : take destroyed (covered_in h read) ≡ covered_in h read
+        all = take_all destroyed (covered_in h read) (omega (arith, whole))
 
-        go : ((own_part h g).given i ≡ Some uses) ⊎ ((group ≡ g) × (i ≡ id.0) × (us ≡ uses)) → HasItem (h ++ Gave group id us ∷ []) i
-        go (inl given) = let has : HasItem h i = so_far given in (has.0, in_all has.0 (in_front (garbage_of h) (record { handle = id; uses = us } ∷ []) has.0 has.1), has.2)
-        go (inr new) = (record { handle = id; uses = us }, in_all (record { handle = id; uses = us }) (in_back (garbage_of h) (record { handle = id; uses = us } ∷ []) (record { handle = id; uses = us }) (inl refl)), sym new.1)
-    step h (Abandoned group id) out i uses so_far = same h (Abandoned group id) i uses refl so_far
-    step h (Cleaned read destroyed) out i uses so_far = absurd (false≢true (sym out))
-    step h Closing out i uses so_far = same h Closing i uses refl so_far
-    step h (Stopped stop) out i uses so_far = same h (Stopped stop) i uses refl so_far
+        by_case : IsIn has.0 (without_covered read (destroyed + 1) (garbage_of h)) ⊎ (is_covered read has.0 ≡ true) → WaitsOrGone (h ++ Cleaned read destroyed ∷ []) i
+        by_case (inl left) = inl (has.0, subst (IsIn has.0) (sym (garbage_then h (Cleaned read destroyed))) left, has.2)
+        by_case (inr covered) = inr (subst (λ k. kind_of (journal_of (h ++ Cleaned read destroyed ∷ [])) k ≡ None) has.2
+            (ap (λ j. kind_of j has.0.handle.0) (journal_then h (Cleaned read destroyed) ∙ ap (λ l. journal_of h ++ destroys l) all)
+            ∙ destroyed_gone (covered_in h read) (journal_of h) has.0 (kept_by (is_covered read) (garbage_of h) has.0 has.1 covered)))
+    waits h Closing i whole has = same h Closing i refl has
+    waits h (Stopped stop) i whole has = same h (Stopped stop) i refl has
+
+    new_waits : (h : List BackEvent) (e : BackEvent) (g i : ℕ) (uses : List QueueSerial) → Gives e g i uses → WaitsOrGone (h ++ e ∷ []) i
+    new_waits h (Created group id kind) g i uses gives = absurd gives
+    new_waits h (Wrote group id at bytes) g i uses gives = absurd gives
+    new_waits h (Enqueued b) g i uses gives = absurd gives
+    new_waits h Submitted g i uses gives = absurd gives
+    new_waits h (Ran batch node) g i uses gives = absurd gives
+    new_waits h (Retired serial) g i uses gives = absurd gives
+    new_waits h (Fetched group id at bytes) g i uses gives = absurd gives
+    new_waits h (Gave group id us) g i uses new =
+        inl (
+          record { handle = id; uses = us },
+          subst (IsIn (record { handle = id; uses = us })) (sym (garbage_then h (Gave group id us))) (in_back (garbage_of h) (record { handle = id; uses = us } ∷ []) (record { handle = id; uses = us }) (inl refl)),
+          sym new.1,
+        )
+    new_waits h (Abandoned group id) g i uses gives = absurd gives
+    new_waits h (Cleaned read destroyed) g i uses gives = absurd gives
+    new_waits h Closing g i uses gives = absurd gives
+    new_waits h (Stopped stop) g i uses gives = absurd gives
+
+    go : (h : List BackEvent) (e : BackEvent) → IsRun h → MayHappen h e → IsWhole h e → (g i : ℕ) (uses : List QueueSerial) → ((own_part h g).given i ≡ Some uses → WaitsOrGone h i)
+        → ((own_part h g).given i ≡ Some uses) ⊎ Gives e g i uses → WaitsOrGone (h ++ e ∷ []) i
+    go h e run may whole g i uses so_far (inr new) = new_waits h e g i uses new
+    go h e run may whole g i uses so_far (inl old) = by_case (so_far old)
+      where
+        by_case : WaitsOrGone h i → WaitsOrGone (h ++ e ∷ []) i
+        by_case (inl has) = waits h e i whole has
+        by_case (inr none) = inr (gone_then h i none e (no_more h e run may g i ((known h run g).given_made i uses old)))
 
 -- The end
 
@@ -181,22 +246,26 @@ some_is : {A : Type 0} (o : Option A) → IsSome o → (x : A) × (o ≡ Some x)
 some_is None some = absurd (false≢true some)
 some_is (Some x) some = (x, refl)
 
-pub ends_clean : (h : List BackEvent) (g : ℕ) (read : List ℕ) → IsRun h → outside_of h g ≡ []
-    → ((id : ℕ) → IsSome ((link_of h g).kinds id) → IsSome ((link_of h g).given id))
-    → ((id : ℕ) (uses : List QueueSerial) → (link_of h g).given id ≡ Some uses → are_covered read uses ≡ true)
+pub ends_clean : (h : List BackEvent) (read : List ℕ) → IsRun h → CleansWhole h
+    → ((g id : ℕ) → IsSome ((link_of h g).kinds id) → IsSome ((link_of h g).given id))
+    → ((g id : ℕ) (uses : List QueueSerial) → (link_of h g).given id ≡ Some uses → are_covered read uses ≡ true)
     → (id : ℕ) → kind_of (journal_of h ++ destroys (collect (garbage_of h) read).0) id ≡ None
-ends_clean h g read run none given covered i = go (made_or_gone g h run none i)
+ends_clean h read run whole given covered i = go (made_or_gone h run i)
   where
-    waits : (uses : List QueueSerial) → (own_part h g).given i ≡ Some uses → HasItem h i → kind_of (journal_of h ++ destroys (filter (is_covered read) (garbage_of h))) i ≡ None
-    waits uses is has =
+    gone : kind_of (journal_of h) i ≡ None → kind_of (journal_of h ++ destroys (filter (is_covered read) (garbage_of h))) i ≡ None
+    gone none = gone_stays (filter (is_covered read) (garbage_of h)) (journal_of h) i none
+
+    waits : (g : ℕ) (uses : List QueueSerial) → (own_part h g).given i ≡ Some uses → WaitsOrGone h i → kind_of (journal_of h ++ destroys (filter (is_covered read) (garbage_of h))) i ≡ None
+    waits g uses is (inr none) = gone none
+    waits g uses is (inl has) =
         let same : has.0.uses ≡ uses = item_uses h run g i uses has.0 is has.1 has.2 in
-        let test : is_covered read has.0 ≡ true = ap (are_covered read) same ∙ covered i uses is in
+        let test : is_covered read has.0 ≡ true = ap (are_covered read) same ∙ covered g i uses is in
         subst (λ k. kind_of (journal_of h ++ destroys (filter (is_covered read) (garbage_of h))) k ≡ None) has.2
         (destroyed_gone (filter (is_covered read) (garbage_of h)) (journal_of h) has.0 (kept_by (is_covered read) (garbage_of h) has.0 has.1 test))
 
-    go : MadeOrGone g h i → kind_of (journal_of h ++ destroys (filter (is_covered read) (garbage_of h))) i ≡ None
-    go (inl gone) = gone_stays (filter (is_covered read) (garbage_of h)) (journal_of h) i gone
-    go (inr made) = let uses = some_is ((own_part h g).given i) (given i made) in waits uses.0 uses.1 (given_waits g h run none i uses.0 uses.1)
+    go : MadeOrGone h i → kind_of (journal_of h ++ destroys (filter (is_covered read) (garbage_of h))) i ≡ None
+    go (inl none) = gone none
+    go (inr made) = let uses = some_is ((own_part h made.0).given i) (given made.0 i made.1) in waits made.0 uses.0 uses.1 (given_waits h run whole made.0 i uses.0 uses.1)
 
 -- Covered uses
 
@@ -243,13 +312,13 @@ journal_cleaned h read (suc count) all =
     ∙ journal_then h (Cleaned read (suc count))
     ∙ ap (λ l. journal_of h ++ destroys l) (take_all (suc count) (covered_in h read) (omega (arith, all)))
 
-pub cleaned_clean : (h : List BackEvent) (g count : ℕ) (read : List ℕ) → IsRun h → outside_of h g ≡ [] → IsAllGiven h g → AreCompleted h read
+pub cleaned_clean : (h : List BackEvent) (count : ℕ) (read : List ℕ) → IsRun h → CleansWhole h → ((g : ℕ) → IsAllGiven h g) → AreCompleted h read
     → count ≡ length (collect (garbage_of h) read).0 → (id : ℕ) → kind_of (journal_of (cleaned h read count)) id ≡ None
-cleaned_clean h g count read run none all are counted id =
+cleaned_clean h count read run whole all are counted id =
     ap (λ j. kind_of j id) (journal_cleaned h read count counted)
-    ∙ ends_clean h g read run none all.given (λ i uses given. all_covered read uses (given_distinct h run g i uses given) (λ index. low i uses given index (cases_order index 64))) id
+    ∙ ends_clean h read run whole (λ g. (all g).given) (λ g i uses given. all_covered read uses (given_distinct h run g i uses given) (λ index. low g i uses given index (cases_order index 64))) id
   where
-    low : (i : ℕ) (uses : List QueueSerial) → (link_of h g).given i ≡ Some uses → (index : ℕ) → (index ≡ 64) ⊎ ((index < 64) ⊎ (64 < index)) → number_of uses index ≤ slice_index read index
-    low i uses given index (inl is) = omega (arith, all.reached i uses given index, high_zero h run index (omega (arith, is)))
-    low i uses given index (inr (inl lt)) = omega (arith, all.reached i uses given index, are index lt)
-    low i uses given index (inr (inr high)) = omega (arith, all.reached i uses given index, high_zero h run index (omega (arith, high)))
+    low : (g i : ℕ) (uses : List QueueSerial) → (link_of h g).given i ≡ Some uses → (index : ℕ) → (index ≡ 64) ⊎ ((index < 64) ⊎ (64 < index)) → number_of uses index ≤ slice_index read index
+    low g i uses given index (inl is) = omega (arith, (all g).reached i uses given index, high_zero h run index (omega (arith, is)))
+    low g i uses given index (inr (inl lt)) = omega (arith, (all g).reached i uses given index, are index lt)
+    low g i uses given index (inr (inr high)) = omega (arith, (all g).reached i uses given index, high_zero h run index (omega (arith, high)))

@@ -1,6 +1,6 @@
 -- Nodes fit the objects that they touch, whatever the others are.
 use Rattle.std.proofs.Common.{◌≡◌, ℕ, ◌==◌, true, List, [], ◌∷◌, ◌++◌, length, get_or, refl, sym, ap, ◌∙◌, subst, inl, inr}
-use Rattle.std.specs.Prelude.{◌/◌, ◌⊎◌, Some, Option, All, slice_get, IsSome}
+use Rattle.std.specs.Prelude.{◌/◌, ◌⊎◌, Some, Option, All, slice_get}
 use Rattle.std.proofs.lemmas.Bool.{eq-eqb}
 use Rattle.std.proofs.lemmas.Option.{none-some, slice_get-get_or}
 use Rattle.vk_types.specs.declared.handles.Kind.{Kind}
@@ -11,7 +11,7 @@ use Rattle.vk_types.specs.declared.batches.Batch.{Batch}
 use Rattle.vk_types.specs.declared.regions.Rect.{Rect}
 use Rattle.vk_types.specs.Touches.{op_touches, rows_size, buffer_texel}
 use Rattle.vk_model.specs.Log.{touches_object}
-use Rattle.vk_model.specs.Fitting.{HasRange, HasRect, HasTexels, IsImage, format_in, OpFits, NodeFits}
+use Rattle.vk_model.specs.Fitting.{HasRange, HasRect, HasTexels, IsImage, format_in, LayoutsFit, OpFits, NodeFits}
 use Rattle.back_core.specs.declared.back_event.BackEvent.{BackEvent}
 use Rattle.back_core.specs.declared.back_event.BackEvent.TheVariants.{Created, Wrote, Enqueued, Submitted, Ran, Retired, Fetched, Gave, Abandoned, Cleaned, Closing, Stopped}
 use Rattle.back_core.specs.Own.{batch_touches}
@@ -60,7 +60,7 @@ module _ (kinds kinds' : ℕ → Option Kind) where
   op_fits (ClearImage id r texel) same fits = rect id.0 r (same _ 0 refl) fits
   op_fits (FillBuffer dst dst_at size byte) same fits = range dst.0 dst_at size (same _ 0 refl) fits
   op_fits (PassPart a b id c d clears) same fits = (image id.0 (same _ 0 refl) fits.0, λ k e lt. rect id.0 _ (same _ 0 refl) (fits.1 k e lt))
-  op_fits (Op.Barrier b) same fits = subst (λ (o : Option Kind). IsSome o) (same _ 0 refl) fits
+  op_fits (Op.Barrier b) same fits = subst (λ (o : Option Kind). LayoutsFit o b.layouts) (same _ 0 refl) fits
 
   pub node_fits : (n : Node) → ((id : ℕ) → touches_object n id ≡ true → kinds id ≡ kinds' id) → NodeFits kinds n → NodeFits kinds' n
   node_fits n same fits = op_fits n.op (λ t k at. same t.id.0 (any_of (λ u. u.id.0 == t.id.0) (op_touches n.op) k t at (eq-eqb t.id.0 t.id.0 refl))) fits

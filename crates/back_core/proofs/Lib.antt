@@ -1,4 +1,5 @@
 mod Sees
+pub mod Frames
 mod CleanedUp
 mod Uses
 mod Room
@@ -38,4 +39,9 @@ mod Lives
 mod Fits
 mod Meets
 mod Outside
+mod Apart
+mod Whole
+pub mod Losses
 mod EndsClean
+mod Calling
+mod HostBytes

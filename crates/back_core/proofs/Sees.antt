@@ -10,6 +10,7 @@ use Rattle.std.proofs.lemmas.List.Sums.{fold-append}
 use Rattle.vk_types.specs.declared.handles.HandleId.{HandleId}
 use Rattle.vk_types.specs.declared.handles.Kind.{Kind}
 use Rattle.vk_types.specs.declared.batches.Batch.{Batch}
+use Rattle.vk_types.specs.declared.stops.Stop.{Stop}
 use Rattle.vk_types.specs.declared.batches.QueueSerial.{QueueSerial}
 use Rattle.submit_queue.specs.Histories as queue
 use Rattle.back_core.specs.declared.back_event.BackEvent.{BackEvent}
@@ -24,7 +25,7 @@ own_keeps : (b : Bool) (l new : Link) → new.group ≡ l.group → (cond b new 
 own_keeps true l new e = e
 own_keeps false l new e = refl
 
-after_keeps : (l : Link) (e : BackEvent) → (link_after l e).group ≡ l.group
+pub after_keeps : (l : Link) (e : BackEvent) → (link_after l e).group ≡ l.group
 after_keeps l (Created group id kind) = own_keeps (group == l.group) l _ refl
 after_keeps l (Wrote group id at bytes) = own_keeps (group == l.group) l _ refl
 after_keeps l (Enqueued batch) = own_keeps ((batch.index / 8) == l.group) l _ refl
@@ -153,3 +154,7 @@ asked_then h g index = record {
   told = refl;
   loaded = refl;
 }
+
+-- a stop tells a group nothing
+pub stop_then : (h : List BackEvent) (g : ℕ) (stop : Stop) → link_of (h ++ Stopped stop ∷ []) g ≡ link_of h g
+stop_then h g stop = link_then h g (Stopped stop) (own_part h g) (completed h) refl (completed_same h (Stopped stop) refl)

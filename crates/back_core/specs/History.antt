@@ -98,6 +98,21 @@ is_outside g (Cleaned read destroyed) = true
 is_outside g Closing = true
 is_outside g (Stopped stop) = false
 
--- what happened that the calls of a group's link have no part in
-unfoldable pub outside_of : List BackEvent → ℕ → List BackEvent
-outside_of history g = filter (is_outside g) history
+-- an event of a group's own calls
+abbrev pub is_own : ℕ → BackEvent → Bool
+is_own g (Created group id kind) = group == g
+is_own g (Wrote group id at bytes) = group == g
+is_own g (Enqueued batch) = (batch.index / 8) == g
+is_own g Submitted = false
+is_own g (Ran batch node) = false
+is_own g (Retired serial) = false
+is_own g (Fetched group id at bytes) = group == g
+is_own g (Gave group id uses) = group == g
+is_own g (Abandoned group id) = group == g
+is_own g (Cleaned read destroyed) = false
+is_own g Closing = false
+is_own g (Stopped stop) = false
+
+-- the events of a group's own calls, in order
+abbrev pub own_events : List BackEvent → ℕ → List BackEvent
+own_events history g = filter (is_own g) history

@@ -3,7 +3,9 @@ pub mod Link
 pub mod Needs
 pub mod Answers
 pub mod History
+pub mod Frame
 pub mod Run
 pub mod Back
 pub mod Steps
+pub mod Losses
 pub mod Cleaning

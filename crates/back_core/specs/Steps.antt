@@ -93,6 +93,29 @@ pub record CleansSome {D : Type 0} (journal : D → List Logged) (old new : Back
   pub destroyed : journal new.device ≡ journal old.device ++ destroys (take count (covered_in old.history read))
   pub history : new.history ≡ stopped_by (old.history ++ event.Cleaned read count ∷ []) stop
 
+-- a cleanup destroyed all that its numbers covered, so nothing stopped it
+abbrev pub IsWhole : List BackEvent → BackEvent → Type 0
+IsWhole before (event.Created group id kind) = Unit {0}
+IsWhole before (event.Wrote group id at bytes) = Unit {0}
+IsWhole before (event.Enqueued batch) = Unit {0}
+IsWhole before event.Submitted = Unit {0}
+IsWhole before (event.Ran batch node) = Unit {0}
+IsWhole before (event.Retired serial) = Unit {0}
+IsWhole before (event.Fetched group id at bytes) = Unit {0}
+IsWhole before (event.Gave group id uses) = Unit {0}
+IsWhole before (event.Abandoned group id) = Unit {0}
+IsWhole before (event.Cleaned read destroyed) = destroyed ≡ length (covered_in before read)
+IsWhole before event.Closing = Unit {0}
+IsWhole before (event.Stopped stop) = Unit {0}
+
+abbrev pub AreWhole : List BackEvent → List BackEvent → Type 0
+AreWhole before [] = Unit {0}
+AreWhole before (event ∷ events) = IsWhole before event × AreWhole (before ++ event ∷ []) events
+
+-- each cleanup destroyed all that its numbers covered
+unfoldable pub CleansWhole : List BackEvent → Type 0
+CleansWhole history = AreWhole [] history
+
 -- the completed numbers of all indexes
 abbrev pub AreCompleted : List BackEvent → List ℕ → Type 0
 AreCompleted history read = (index : ℕ) → index < 64 → slice_index read index ≡ completed history index

@@ -1,5 +1,5 @@
 // The back: a device, and what the share groups had it do.
-ghost use Rattle.std.specs.Prelude.{◌≡◌, ◌==◌, ◌↔◌, ℕ, [], ◌∷◌, ◌++◌, length, not, is_some, IsTrue, OnOk, IfOk, IfErr};
+ghost use Rattle.std.specs.Prelude.{◌≡◌, ◌==◌, ◌↔◌, ◌<◌, ℕ, [], ◌∷◌, ◌++◌, length, not, is_some, IsTrue, OnOk, IfOk, IfErr};
 
 use crate::run_laws::runs_go_on;
 use crate::stored::Stored;
@@ -66,6 +66,14 @@ impl<D: Device> Back<D> {
             }),
             Err(_) => Err(device),
         }
+    }
+
+    /// How many events there were. It looks at none of them.
+    pub fn count(&self) -> u64
+        ensures count { result ≡ length self.now.history }
+        ensures few { result < 18446744073709551615 }
+    {
+        self.history.len() as u64
     }
 
     /// The completed number of an index: the greatest such that its batches with the numbers from 1 to it were retired.

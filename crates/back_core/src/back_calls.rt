@@ -131,6 +131,7 @@ impl<D: Device> Back<D> {
         requires may { HostMay (link_of self.old.history group) id.0 at (length out.old) }
         requires readable { IsReadable (log_of (link_of self.old.history group).mine) id.0 at (length out.old) }
         ensures ok { OnOk result (self.new.history ≡ self.old.history ++ Fetched group id at out.new ∷ []) }
+        ensures unread { OnErr result (out.new ≡ out.old) }
         ensures bytes { OnOk result (Agrees out.new (cells (length out.old) (λ i. contents_of (link_of self.old.history group) id.0 (at + i)))) }
         ensures err { IfErr result (λ stop. self.new.history ≡ stopped_by self.old.history stop) }
         ensures cause { HasCause (D.faults self.old.device) (D.faults self.new.device) result }
@@ -143,6 +144,7 @@ impl<D: Device> Back<D> {
         requires may { HostMay (link_of self.old.history group) id.0 at (length out.old) }
         requires readable { IsReadable (log_of (link_of self.old.history group).mine) id.0 at (length out.old) }
         ensures ok { OnOk result (self.new.history ≡ self.old.history ++ Fetched group id at out.new ∷ []) }
+        ensures unread { OnErr result (out.new ≡ out.old) }
         ensures bytes { OnOk result (Agrees out.new (cells (length out.old) (λ i. contents_of (link_of self.old.history group) id.0 (at + i)))) }
         ensures err { OnErr result (self.new.history ≡ self.old.history) }
         ensures cause { HasCause (D.faults self.old.device) (D.faults self.new.device) result }

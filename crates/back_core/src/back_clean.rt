@@ -6,12 +6,11 @@ ghost use Rattle.vk_device.specs.Faults.{HasCause};
 ghost use Rattle.vk_device.specs.Journal.{kind_of};
 ghost use Rattle.vk_device.specs.Running.{IsInOrder};
 ghost use Rattle.garbage.specs.declared.entry.Garbage.{Garbage};
-ghost use Rattle.back_core.specs.History.{outside_of};
 ghost use Rattle.back_core.specs.Run.{IsRun, WereRead, journal_of, covered_in};
-ghost use Rattle.back_core.specs.Steps.{CleansBy, CleansUp, CleansSome, CleansAll, CleansSomeOfAll, AreCompleted, IsAllGiven, IsForgotten};
+ghost use Rattle.back_core.specs.Steps.{CleansBy, CleansUp, CleansSome, CleansAll, CleansSomeOfAll, AreCompleted, IsAllGiven, CleansWhole, IsForgotten};
 
 use crate::cleaning::{Destroyed, abandon_all, destroy_covered};
-use crate::end_laws::runs_end_clean;
+use crate::end_laws::{cleanups_stay_whole, runs_end_clean};
 use crate::run_laws::{runs_go_on, runs_meet_the_device};
 use crate::stored::Stored;
 use crate::{Back, BackEvent};
@@ -26,11 +25,13 @@ impl<D: Device> Back<D> {
         requires { WereRead self.old.history read.now }
         ensures ok { IfOk result (λ count. CleansUp D.journal self.old self.new read.now count) }
         ensures err { IfErr result (λ stop. CleansSome D.journal self.old self.new read.now stop) }
+        ensures whole { OnOk result (CleansWhole self.old.history → CleansWhole self.new.history) }
         ensures forgotten { (item : Garbage) → Contains (covered_in self.old.history read.now) item → IsForgotten self.old.history read.now item }
         ensures no_memory { result ≢ Err Memory }
         ensures cause { HasCause (D.faults self.old.device) (D.faults self.new.device) result }
     {
         runs_go_on();
+        cleanups_stay_whole();
         let done = self.clean(read);
         match done.stop {
             None => Ok(done.count),
@@ -63,12 +64,13 @@ impl<D: Device> Back<D> {
         done
     }
 
-    /// Destroys the garbage that the completed numbers of all indexes cover. After it a run of one group in which each
-    /// object was given away, with uses that are completed, has left no object on the device.
+    /// Destroys the garbage that the completed numbers of all indexes cover. After it a run in which no cleanup was stopped,
+    /// and each object of each group was given away, with uses that are completed, has left no object on the device.
     pub fn clean_all(&mut self) -> Result<u64, Stop>
         ensures ok { IfOk result (λ count. CleansAll D.journal self.old self.new count) }
         ensures err { IfErr result (λ stop. CleansSomeOfAll D.journal self.old self.new stop) }
-        ensures clean { OnOk result ((g : ℕ) → outside_of self.old.history g ≡ [] → IsAllGiven self.old.history g → (id : ℕ) → kind_of (journal_of self.new.history) id ≡ None) }
+        ensures clean { OnOk result (CleansWhole self.old.history → ((g : ℕ) → IsAllGiven self.old.history g) → (id : ℕ) → kind_of (journal_of self.new.history) id ≡ None) }
+        ensures whole { OnOk result (CleansWhole self.old.history → CleansWhole self.new.history) }
         ensures no_memory { result ≢ Err Memory }
         ensures cause { HasCause (D.faults self.old.device) (D.faults self.new.device) result }
     {
@@ -78,8 +80,8 @@ impl<D: Device> Back<D> {
         self.cleanup(&read)
     }
 
-    // The completed numbers of all indexes.
-    fn all_completed(&self) -> [u64; 64]
+    /// The completed numbers of all indexes.
+    pub fn all_completed(&self) -> [u64; 64]
         ensures { AreCompleted self.now.history result }
     {
         let mut read = [0; 64];

@@ -1,5 +1,5 @@
 // How the batches go on: they are submitted, run and retired.
-ghost use Rattle.std.specs.Prelude.{◌≡◌, ◌≢◌, ◌≤◌, ℕ, Err, IfOk, IfErr, IfNone, IfSome, OnOk, OnErr};
+ghost use Rattle.std.specs.Prelude.{◌≡◌, ◌≢◌, ◌<◌, ◌≤◌, ℕ, Err, IfOk, IfErr, IfNone, IfSome, OnOk, OnErr};
 ghost use Rattle.vk_types.specs.declared.stops.Stop.TheVariants.{Memory};
 ghost use Rattle.vk_device.specs.Faults.{HasCause};
 ghost use Rattle.submit_queue.specs.Histories.{CanRetire};
@@ -79,9 +79,11 @@ impl<D: Device> Back<D> {
         }
     }
 
-    /// Retires a batch and gives its serial; `None` exactly where no batch can be retired. This takes no memory.
+    /// Retires a batch and gives its serial; `None` exactly where no batch can be retired. The completed number of its index
+    /// alone changes. This takes no memory.
     pub fn retire(&mut self) -> Option<QueueSerial>
         ensures some { IfSome result (λ serial. RetiresOne self.old.history self.new.history serial) }
+        ensures others { IfSome result (λ serial. (i : ℕ) → i < 64 → i ≢ serial.index → completed self.new.history i ≡ completed self.old.history i) }
         ensures none { IfNone result ((place : ℕ) → CanRetire (queue_history self.old.history) place → ⊥) }
         ensures unchanged { IfNone result (self.new ≡ self.old) }
         ensures device { self.new.device ≡ self.old.device }

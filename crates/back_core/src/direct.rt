@@ -1,12 +1,13 @@
 // A group's link to a back that it reaches directly.
-ghost use Rattle.std.specs.Prelude.{◌≡◌, ◌<◌, IfErr, OnOk, OnErr};
+ghost use Rattle.std.specs.Prelude.{◌≡◌, ◌<◌, Some, true, is_err, IfErr, OnOk, OnErr};
 ghost use Rattle.vk_device.specs.Faults.{HasCause};
 ghost use Rattle.back_core.specs.Needs.{HasBatch};
 ghost use Rattle.back_core.specs.Answers.{Learns, Waits};
-ghost use Rattle.back_core.specs.History.{link_of, outside_of};
+ghost use Rattle.back_core.specs.History.{link_of};
+ghost use Rattle.back_core.specs.Frame.{AtBack, NoBatch};
 ghost use Rattle.back_core.specs.Steps.{HasGoneOn, HasStopped};
 
-use crate::{Back, BackLink, calls_stay_inside, what_a_group_sees};
+use crate::{Back, BackLink, what_a_group_sees};
 use garbage::Garbage;
 use vk_device::Device;
 use vk_types::{Batch, Handle, HandleId, Kind, QueueSerial, SerialIndex, Stop};
@@ -41,23 +42,20 @@ impl<D: Device> BackLink for Direct<D> {
 
     ghost faults = { λ d. D.faults d.back.device };
 
-    ghost outside = { λ d. outside_of d.back.history d.group };
+    ghost told = { λ d. Some d.back.history };
 
     fn create(&mut self, kind: Kind) -> Result<Handle, Stop> {
         what_a_group_sees();
-        calls_stay_inside();
         self.back.create(self.group, kind)
     }
 
     fn write_host(&mut self, id: HandleId, at: u64, bytes: &[u8]) -> Result<(), Stop> {
         what_a_group_sees();
-        calls_stay_inside();
         self.back.write_host(self.group, id, at, bytes)
     }
 
     fn enqueue(&mut self, batch: Batch) -> Result<(), Batch> {
         what_a_group_sees();
-        calls_stay_inside();
         self.back.enqueue(batch)
     }
 
@@ -74,27 +72,23 @@ impl<D: Device> BackLink for Direct<D> {
         ensures ok { OnOk result (Waits (link_of self.old.back.history self.old.group) (link_of self.new.back.history self.new.group) serial.index serial.number) }
         ensures err { OnErr result (Learns (link_of self.old.back.history self.old.group) (link_of self.new.back.history self.new.group)) }
         ensures cause { HasCause (D.faults self.old.back.device) (D.faults self.new.back.device) result }
-        ensures outside { outside_of self.new.back.history self.new.group ≡ outside_of self.old.back.history self.old.group }
+        ensures at_back { AtBack (link_of self.old.back.history self.old.group) (link_of self.new.back.history self.new.group) (Some self.old.back.history) (Some self.new.back.history) 0 true (is_err result) NoBatch }
     {
-        calls_stay_inside();
         self.back.wait_for(self.group, serial)
     }
 
     fn read_host(&mut self, id: HandleId, at: u64, out: &mut [u8]) -> Result<(), Stop> {
         what_a_group_sees();
-        calls_stay_inside();
         self.back.read_host(self.group, id, at, out)
     }
 
     fn give(&mut self, item: Garbage) {
         what_a_group_sees();
-        calls_stay_inside();
         self.back.give(self.group, item);
     }
 
     fn abandon(&mut self, handle: Handle) {
         what_a_group_sees();
-        calls_stay_inside();
         self.back.abandon(self.group, handle);
     }
 }

@@ -1,6 +1,5 @@
 // What is known of a link from what happened to the back.
-ghost use Rattle.std.specs.Prelude.{◌≡◌, ◌≢◌, ◌/◌, ◌≤◌, ℕ, false, List, [], ◌∷◌, ◌++◌};
-ghost use Rattle.vk_types.specs.declared.stops.Stop.{Stop};
+ghost use Rattle.std.specs.Prelude.{◌≡◌, ◌≢◌, ◌/◌, ◌≤◌, ℕ, List, [], ◌∷◌, ◌++◌};
 ghost use Rattle.vk_types.specs.declared.handles.HandleId.{HandleId};
 ghost use Rattle.vk_types.specs.declared.handles.Kind.{Kind};
 ghost use Rattle.vk_types.specs.declared.batches.Batch.{Batch};
@@ -11,9 +10,7 @@ ghost use Rattle.back_core.specs.declared.back_event.BackEvent.TheVariants.{Crea
 ghost use Rattle.back_core.specs.Own as own;
 ghost use Rattle.back_core.specs.Link.{IsNew, created, wrote, enqueued, fetched, gave, abandoned};
 ghost use Rattle.back_core.specs.Answers.{Learns, Completes};
-ghost use Rattle.back_core.specs.History.{link_of, completed, IsOfOthers, is_outside, outside_of};
-ghost use Rattle.back_core.specs.Steps.{HasGoneOn};
-ghost use Rattle.back_core.specs.Back.{stopped_by};
+ghost use Rattle.back_core.specs.History.{link_of, completed, IsOfOthers};
 
 use submit_queue::completed_numbers;
 
@@ -34,14 +31,6 @@ pub fn what_a_group_sees()
 {
     completed_numbers();
 }
-
-/// What happened outside a group's calls stays as it is in each of them, in a stop, and as the batches go on.
-pub fn calls_stay_inside()
-    ensures none { (g : ℕ) → outside_of [] g ≡ [] }
-    ensures own { (h : List BackEvent) (g : ℕ) (e : BackEvent) → is_outside g e ≡ false → outside_of (h ++ e ∷ []) g ≡ outside_of h g }
-    ensures goes_on { (h i : List BackEvent) (g : ℕ) → HasGoneOn h i → outside_of i g ≡ outside_of h g }
-    ensures stopped { (h : List BackEvent) (g : ℕ) (stop : Stop) → outside_of (stopped_by h stop) g ≡ outside_of h g }
-{}
 
 /// No last use is above the last number of its index, while the numbers of an index rise.
 pub fn uses_are_low()

@@ -10,6 +10,7 @@
 //! reaches on its own thread.
 #![tactic(auto)]
 
+mod apart_laws;
 mod back;
 mod back_calls;
 mod back_clean;
@@ -21,14 +22,17 @@ mod direct;
 mod end_laws;
 mod ending;
 mod laws;
+mod loss_laws;
 mod run_laws;
 mod stored;
 
+pub use apart_laws::groups_are_apart;
 pub use back::Back;
 pub use back_event::BackEvent;
 pub use back_link::BackLink;
 pub use direct::Direct;
-pub use end_laws::runs_end_clean;
+pub use end_laws::{backs_keep_going, cleanups_stay_whole, runs_end_clean, runs_of_one_group};
 pub use ending::{Ending, Left, Step};
-pub use laws::{calls_stay_inside, uses_are_low, what_a_group_sees};
+pub use laws::{uses_are_low, what_a_group_sees};
+pub use loss_laws::losses_have_causes;
 pub use run_laws::{runs_are_sound, runs_go_on, runs_meet_the_device};

@@ -1,11 +1,12 @@
 -- What a queue keeps, event by event.
-use Rattle.std.proofs.Common.{◌≡◌, ℕ, zero, suc, ◌+◌, ◌-◌, ◌<◌, ◌≤◌, ◌^◌, ◌==◌, Bool, true, false, cond, List, [], ◌∷◌, ◌++◌, length, map, take, set, replicate, refl, sym, ap, subst, ◌∙◌, inl, inr, arith}
+use Rattle.std.proofs.Common.{◌≡◌, ◌≢◌, ℕ, zero, suc, ◌+◌, ◌-◌, ◌<◌, ◌≤◌, ◌^◌, ◌==◌, Bool, true, false, cond, List, [], ◌∷◌, ◌++◌, length, map, take, set, replicate, refl, sym, ap, subst, ◌∙◌, inl, inr, arith}
 use Rattle.std.specs.Prelude.{◌⊎◌, ◌||◌, min, Some, slice_get, slice_index, option_map, IfSome}
 use Rattle.std.specs.List.{list_any}
 use Rattle.std.proofs.lemmas.Bool.{and_from, and_parts, or_cases, eqb-true, not-true, not_from_false, eqb-false, cases_eq, cases_lt, false≢true, ne_eqb, eq-eqb, or_left, or_right, false_from_ne_true, and_left, and_right}
 use Rattle.std.proofs.lemmas.List.{append_assoc, map-append, length-append, length-map, take-append-le, take_all, get_or-replicate, get_or-set_same, get_or-set_other}
 use Rattle.std.proofs.lemmas.Option.{slice_get_within, slice_get-map}
 use Rattle.vk_types.specs.declared.batches.Batch.{Batch}
+use Rattle.vk_types.specs.declared.batches.QueueSerial.{QueueSerial}
 use Rattle.submit_queue.specs.declared.pending.Pending.{Pending}
 use Rattle.submit_queue.specs.Histories.{Event, is_retirement, retired, Pushed, Accepted, Ran, Retired, batches, accepted, has_run, is_retired, item_count, last_number, first_flushed, MayPush, MayAccept, MayRun, CanRetire, IsCompleted, completed, reach, IsLeft}
 use Rattle.submit_queue.specs.Kept.{batch_of, not_run, LeftAre, AreNumbered, IsKept, HasNumber, lowered, has_left}
@@ -385,3 +386,10 @@ module _ (h : List Event) (f : Pending) (rest : List Pending) (a r : ℕ) (cs : 
         one_queue = λ k c at. kept.one_queue k c (subst (λ l. slice_get l k ≡ Some c) (batches-same h retirement refl) at);
         completed = now_completed;
       }
+
+-- a retirement of one index leaves the completed numbers of the others
+pub others_same : (h : List Event) (serial : QueueSerial) (at : ℕ) (p p' : List Pending) (a a' r r' : ℕ) (cs : List ℕ) → IsKept h p a r cs → IsKept (h ++ Retired serial ∷ []) p' a' r' (set cs at serial.number)
+    → (i : ℕ) → i < 64 → i ≢ at → completed (h ++ Retired serial ∷ []) i ≡ completed h i
+others_same h serial at p p' a a' r r' cs was now i low apart =
+    sym (completed_number (h ++ Retired serial ∷ []) p' a' r' (set cs at serial.number) now i low)
+    ∙ (get_or-set_other cs at i serial.number 0 apart ∙ completed_number h p a r cs was i low)

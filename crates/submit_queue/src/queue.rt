@@ -1,5 +1,5 @@
 // The batches of a device, from the push to the retirement.
-ghost use Rattle.std.specs.Prelude.{◌≡◌, ◌+◌, ◌-◌, ◌<◌, ℕ, List, [], ◌∷◌, ◌++◌, Some, IfErr, IfNone, IfSome, OnOk, OnErr, IsTrue, ◌↔◌, option_copied, slice_get, length};
+ghost use Rattle.std.specs.Prelude.{◌≡◌, ◌≢◌, ◌+◌, ◌-◌, ◌<◌, ℕ, List, [], ◌∷◌, ◌++◌, Some, IfErr, IfNone, IfSome, OnOk, OnErr, IsTrue, ◌↔◌, option_copied, slice_get, length};
 ghost use Rattle.submit_queue.specs.Histories.{Event, Pushed, Accepted, Ran, Retired, item_count, first_flushed, MayPush, MayAccept, MayRun, CanRetire, IsCompleted, completed, IsLeft};
 ghost use Rattle.submit_queue.specs.Kept.{Keeps, Retires};
 
@@ -92,6 +92,7 @@ impl SubmitQueue {
     pub fn retire(&mut self) -> Option<QueueSerial>
         ensures some { IfSome result (λ serial. (h : List Event) → Keeps h self.old → Retires h serial self.new) }
         ensures none { IfNone result ((h : List Event) → Keeps h self.old → (batch : ℕ) → CanRetire h batch → ⊥) }
+        ensures others { IfSome result (λ serial. (h : List Event) → Keeps h self.old → (i : ℕ) → i < 64 → i ≢ serial.index → completed (h ++ Retired serial ∷ []) i ≡ completed h i) }
         ensures unchanged { IfNone result (self.new ≡ self.old) }
     {
         if self.accepted == 0 || !is_executed(&self.pending) {

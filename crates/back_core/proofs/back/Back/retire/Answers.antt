@@ -1,9 +1,11 @@
-use Rattle.std.proofs.Common.{◌-◌, refl, sym, arith, map}
+use Rattle.std.proofs.Common.{◌-◌, refl, sym, ap, ◌∙◌, arith, map}
+use Rattle.submit_queue.specs.Histories as queue
 use Rattle.back_core.specs.declared.back_event.BackEvent.TheVariants.{Retired}
 use Rattle.back_core.specs.declared.stored.Stored.TheVariants as stored
-use Rattle.back_core.specs.History.{queue_history}
+use Rattle.back_core.specs.History.{queue_history, completed}
 use Rattle.back_core.specs.Run.{MayRetire}
 use Rattle.back_core.specs.Back.{Holds, event_of}
+use Rattle.back_core.proofs.Sees.{queue_then}
 use Rattle.back_core.proofs.Holding.{GoesOn, at_end, is_end}
 use Rattle.back_core.proofs.Calls.{progress_room, holds_progress}
 use Rattle.std.proofs.lemmas.List.{append-nil}
@@ -60,3 +62,13 @@ returns-clause-some g c =
     let gone = c.in_ok-index.ensures.some (queue_history h) holds.kept in
     let may : MayRetire h c.in_ok-index.field-0 = record { place = gone.place; can = gone.can; index = gone.index; number = gone.number } in
     rw (← c.self.view_is) (is_end b.history.items c.push_reserved.new.self.items (stored.Event (Retired c.in_ok-index.field-0)) c.push_reserved.ensures.items, may)
+
+pub returns-clause-others : goal.returns-clause-others
+returns-clause-others g c i low apart =
+    let b = c.self.inside in
+    let h = map event_of b.history.items in
+    let holds = c.self.invariant.0 in
+    rw (← c.self.view_is)
+    (ap (λ l. completed l i) (is_end b.history.items c.push_reserved.new.self.items (stored.Event (Retired c.in_ok-index.field-0)) c.push_reserved.ensures.items)
+    ∙ ap (λ q. queue.completed q i) (queue_then h (Retired c.in_ok-index.field-0))
+    ∙ c.in_ok-index.ensures.others (queue_history h) holds.kept i low apart)

@@ -1,8 +1,8 @@
-use Rattle.std.proofs.Common.{rules, ◌≡◌, ℕ, ◌<◌, List, ◌∷◌, length, subst, arith}
+use Rattle.std.proofs.Common.{rules, ◌≡◌, ℕ, ◌<◌, List, ◌∷◌, length, ◌∙◌, subst, arith}
 use Rattle.std.specs.Prelude.{slice_get, IfSome}
 use Rattle.submit_queue.specs.declared.pending.Pending.{Pending}
 use Rattle.submit_queue.specs.Kept.{IsKept}
-use Rattle.submit_queue.proofs.Steps.{none_accepted, none_left, front_can, retired_kept}
+use Rattle.submit_queue.proofs.Steps.{none_accepted, none_left, front_can, retired_kept, others_same}
 use Rattle.submit_queue.proofs.queue.SubmitQueue.retire.Goals as goal
 use Rattle.submit_queue.proofs.queue.SubmitQueue.retire.Goals.{then-self-eq0-via-then-self-eq0, then-self-eq0-via-else-self-eq0+then-not-is_executed}
 
@@ -30,3 +30,8 @@ returns-clause-some c h kept =
       number = c.serial-serial.ensures.number;
       keeps = rw (c.saturating_add-self.ensures, c.from.ensures, c.get.ensures.value, own, c.serial-serial.ensures.number) (retired_kept h f rest a r cs was some none index sixty);
     }
+
+pub returns-clause-others : goal.returns-clause-others
+returns-clause-others c h kept i low apart =
+    let own : c.from.result ≡ c.serial-serial.result.index = c.from.ensures ∙ c.get.ensures.value in
+    others_same h c.serial-serial.result c.from.result _ _ _ _ _ _ c.args.self.now.completed kept (returns-clause-some c h kept).keeps i low (λ e. apart (e ∙ own))

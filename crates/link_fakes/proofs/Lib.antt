@@ -1,4 +1,0 @@
-mod Lists
-mod Rights
-mod States
-mod Trials
