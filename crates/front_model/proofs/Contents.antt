@@ -14,7 +14,7 @@ use Rattle.vk_types.specs.Touches.{touches, op_touches, rows_size, buffer_texel}
 use Rattle.vk_model.specs.Cells.{Contents}
 use Rattle.vk_model.specs.Log.{Item, Command, commands, touches_object, node_range, ranges}
 use Rattle.vk_model.specs.Meaning.{covers, is_touched, is_written, found, item_cell, apply, after_all, touches_id}
-use Rattle.vk_model.specs.Fitting.{OpFits, NodeFits, HasRange, HasRect, IsImage}
+use Rattle.vk_model.specs.Fitting.{LayoutsFit, OpFits, NodeFits, HasRange, HasRect, IsImage}
 use Rattle.vk_model.proofs.Clashes.{any_weaker}
 use Rattle.vk_model.proofs.Local.{found_same}
 use Rattle.vk_model.proofs.Order.{after_all-append, after_untouched}
@@ -114,7 +114,7 @@ op_leaves_unmade kinds id is (BlitImage src dst coords clip) fits =
 op_leaves_unmade kinds id is (ClearImage image rect texel) fits = one (eqb image.0 id) (not_here kinds id image.0 (λ o. HasRect o rect) (λ x. x) is fits)
 op_leaves_unmade kinds id is (FillBuffer dst dst_at size byte) fits = one (eqb dst.0 id) (not_here kinds id dst.0 (λ o. HasRange o dst_at size) (λ x. x) is fits)
 op_leaves_unmade kinds id is (PassPart _ _ image _ _ clears) fits = one (eqb image.0 id) (not_here kinds id image.0 IsImage (λ x. x) is fits.0)
-op_leaves_unmade kinds id is (Op.Barrier b) fits = one (eqb b.id.0 id) (not_here kinds id b.id.0 IsSome (λ x. cc) is fits)
+op_leaves_unmade kinds id is (Op.Barrier b) fits = one (eqb b.id.0 id) (not_here kinds id b.id.0 (λ o. LayoutsFit o b.layouts) (λ x. x) is fits)
 
 pub leaves_unmade : (kinds : ℕ → Option Kind) (id : ℕ) → kinds id ≡ None → (n : Node) → NodeFits kinds n → touches_object n id ≡ false
 leaves_unmade kinds id is n fits = op_leaves_unmade kinds id is n.op fits

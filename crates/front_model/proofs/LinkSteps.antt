@@ -15,11 +15,11 @@ use Rattle.back_core.specs.Link.{Link, Asked, IsNew, put, created, wrote, fetche
 use Rattle.back_core.specs.Needs.{IsOfGroup, IsFresh, MayTouch}
 use Rattle.back_core.specs.Answers.{Learns}
 use Rattle.front_model.specs.Face.{Slot, Face, nodes_touch, in_order, whole_log}
-use Rattle.front_model.specs.Stands.{Hands, no_hands, Owner, InHand, use_of, HandStands, IsPastUse, HaveFullBarriers, Holds, new_face}
+use Rattle.front_model.specs.Stands.{Hands, no_hands, Owner, InHand, use_of, HandStands, IsPastUse, AreRecordable, Holds, new_face}
 use Rattle.front_model.specs.Steps.{fresh_slot, AreUses}
 use Rattle.front_model.proofs.Base.{put-same, put-other, put_at, put_is, put-some, put-true, is_some_of}
 use Rattle.front_model.proofs.Uses.{log_then, use_stays, number_stays, use_none}
-use Rattle.front_model.proofs.Sounds.{sound_with_write, barriers_left, barriers_right, barriers-append, barriers_write}
+use Rattle.front_model.proofs.Sounds.{sound_with_write, recordable_left, recordable_right, recordable-append, recordable_write}
 use Rattle.front_model.proofs.Standing.{KindsGrow, fits_more, SameSlot, stored_kept, hand_kept, handle_held, not_in_hand}
 
 -- the indexes of a group are decided
@@ -38,8 +38,8 @@ own_or_not group index = elim (cases_lt index (8 * group)) [
 abbrev with_item : Link → Own → Link
 with_item s x = record s { mine = s.mine ++ x ∷ [] }
 
-host_holds : (f : Face) (hands : Hands) (s : Link) (x : Own) → batch_by x ≡ [] → IsSound (whole_log f (with_item s x)) → HaveFullBarriers (whole_log f (with_item s x)) → Holds f hands s → Holds f hands (with_item s x)
-host_holds f hands s x none sound barriers h =
+host_holds : (f : Face) (hands : Hands) (s : Link) (x : Own) → batch_by x ≡ [] → IsSound (whole_log f (with_item s x)) → AreRecordable (whole_log f (with_item s x)) → Holds f hands s → Holds f hands (with_item s x)
+host_holds f hands s x none sound recordable h =
     let t : Link = with_item s x in
     let same : (j : ℕ) → SameSlot f f s t j = λ j. record {
       held = refl;
@@ -48,7 +48,7 @@ host_holds f hands s x none sound barriers h =
     } in
     record {
       sound = sound;
-      barriers = barriers;
+      recordable = recordable;
       apart = h.apart;
       fits = h.fits;
       none_empty = h.none_empty;
@@ -76,16 +76,16 @@ wrote_holds f hands s id at bytes h =
     = ap (λ l. l ++ commands 0 (in_order f)) (log_then s.mine x) ∙ append_assoc (log_of s.mine) (HostWrite id at bytes ∷ []) (commands 0 (in_order f)) in
     host_holds f hands s x refl
     (subst IsSound (sym is) (sound_with_write id at bytes (log_of s.mine) (commands 0 (in_order f)) h.sound))
-    (subst HaveFullBarriers (sym is) (barriers-append (log_of s.mine) (HostWrite id at bytes ∷ commands 0 (in_order f))
-    (barriers_left (log_of s.mine) (commands 0 (in_order f)) h.barriers)
-    (barriers-append (HostWrite id at bytes ∷ []) (commands 0 (in_order f)) (barriers_write id at bytes) (barriers_right (log_of s.mine) (commands 0 (in_order f)) h.barriers))))
+    (subst AreRecordable (sym is) (recordable-append (log_of s.mine) (HostWrite id at bytes ∷ commands 0 (in_order f))
+    (recordable_left (log_of s.mine) (commands 0 (in_order f)) h.recordable)
+    (recordable-append (HostWrite id at bytes ∷ []) (commands 0 (in_order f)) (recordable_write id at bytes) (recordable_right (log_of s.mine) (commands 0 (in_order f)) h.recordable))))
     h
 
 pub fetched_holds : (f : Face) (hands : Hands) (s : Link) (id at : ℕ) (bytes : List ℕ) → Holds f hands s → Holds f hands (fetched s id at bytes)
 fetched_holds f hands s id at bytes h =
     let x : Own = HostRead id at bytes in
     let is : whole_log f (with_item s x) ≡ whole_log f s = ap (λ l. l ++ commands 0 (in_order f)) (log_then s.mine x ∙ append-nil (log_of s.mine)) in
-    host_holds f hands s x refl (subst IsSound (sym is) h.sound) (subst HaveFullBarriers (sym is) h.barriers) h
+    host_holds f hands s x refl (subst IsSound (sym is) h.sound) (subst AreRecordable (sym is) h.recordable) h
 
 -- The group learns how far the back is
 
@@ -99,7 +99,7 @@ knowing_holds f hands s d n a h =
     let same : (id : ℕ) → SameSlot f f s t id = λ id. record { held = refl; kind = refl; uses = λ index. refl } in
     record {
       sound = h.sound;
-      barriers = h.barriers;
+      recordable = h.recordable;
       apart = h.apart;
       fits = h.fits;
       none_empty = h.none_empty;
@@ -131,7 +131,7 @@ new_holds s group few new =
     let log : log_of s.mine ≡ [] = ap log_of mine in
     record {
       sound = subst (λ l. IsSound (l ++ [])) (sym log) no_log;
-      barriers = subst (λ l. HaveFullBarriers (l ++ [])) (sym log) (λ k q n at. absurd (none-some (Command q n) at));
+      recordable = subst (λ l. AreRecordable (l ++ [])) (sym log) (λ k q n at. absurd (none-some (Command q n) at));
       apart = λ i j ne. tt;
       fits = λ index. All-nil (NodeFits s.kinds);
       none_empty = λ index. All-nil NoneEmpty;
@@ -180,7 +180,7 @@ created_holds f hands s id kind h fresh =
     } in
     record {
       sound = h.sound;
-      barriers = h.barriers;
+      recordable = h.recordable;
       apart = h.apart;
       fits = λ index. All-weaker (NodeFits s.kinds) (NodeFits t.kinds) (fits_more s.kinds t.kinds grows) (f.pending index) (h.fits index);
       none_empty = h.none_empty;
@@ -256,7 +256,7 @@ gave_holds f hands s id slot uses h at are =
     let not_it : (j : ℕ) → h.owner j ≢ InHand → j ≢ id = λ j ne e. ne (ap h.owner e ∙ u.owned) in
     record {
       sound = h.sound;
-      barriers = h.barriers;
+      recordable = h.recordable;
       apart = h.apart;
       fits = h.fits;
       none_empty = h.none_empty;

@@ -38,7 +38,7 @@ exchanged f hands after s o c also stands hands_stand known h others =
     let g : Face = with_object f o c in
     record {
       sound = h.sound;
-      barriers = h.barriers;
+      recordable = h.recordable;
       apart = h.apart;
       fits = h.fits;
       none_empty = h.none_empty;

@@ -11,9 +11,9 @@ use Rattle.vk_model.specs.Log.{Item, Command, IsSound, NoneEmpty, NoConflict, co
 use Rattle.back_core.specs.Link.{put}
 use Rattle.back_core.specs.Needs.{IsOfGroup}
 use Rattle.front_model.specs.Face.{indexes_of}
-use Rattle.front_model.specs.Stands.{HaveFullBarriers}
+use Rattle.front_model.specs.Stands.{AreRecordable}
 use Rattle.front_model.proofs.Base.{put-same, put-other}
-use Rattle.front_model.proofs.Sounds.{barriers_left, barriers_right, barriers-append}
+use Rattle.front_model.proofs.Sounds.{recordable_left, recordable_right, recordable-append}
 
 -- Lists that hold everywhere
 
@@ -174,20 +174,30 @@ module _ (pending : ℕ → List Node) (xs : List ℕ) (index : ℕ) (at : Split
       (before_all pending xs index at (λ l. NoConflict l (pending index)) tt (λ ys zs. apart_left ys zs (pending index)) (λ i ne. apart i index ne))
       (subst (λ l. IsSound (log ++ commands 0 l)) (order_now pending xs index at) sound))
 
-  pub barriers_flushed : HaveFullBarriers (log ++ commands 0 (flat_map pending xs)) → HaveFullBarriers ((log ++ commands 0 (pending index)) ++ commands 0 (flat_map (put pending index []) xs))
-  barriers_flushed full =
+  -- what is pending in one context may be recorded where all may
+  pub recordable_pending : AreRecordable (log ++ commands 0 (flat_map pending xs)) → AreRecordable (commands 0 (pending index))
+  recordable_pending all =
       let a : List Node = before pending xs index at in
       let b : List Node = behind pending xs index at in
-      let now : HaveFullBarriers (log ++ (commands 0 a ++ (commands 0 (pending index) ++ commands 0 b)))
-      = subst HaveFullBarriers (ap (λ l. log ++ commands 0 l) (order_now pending xs index at) ∙ three_parts log a (pending index) b) full in
-      let first = barriers_left log (commands 0 a ++ (commands 0 (pending index) ++ commands 0 b)) now in
-      let rest = barriers_right log (commands 0 a ++ (commands 0 (pending index) ++ commands 0 b)) now in
-      let front = barriers_left (commands 0 a) (commands 0 (pending index) ++ commands 0 b) rest in
-      let back = barriers_right (commands 0 a) (commands 0 (pending index) ++ commands 0 b) rest in
-      subst (λ l. HaveFullBarriers ((log ++ commands 0 (pending index)) ++ l)) (sym (ap (commands 0) (order_with pending xs index at []) ∙ map-append (Command 0) a b))
-      (barriers-append (log ++ commands 0 (pending index)) (commands 0 a ++ commands 0 b)
-      (barriers-append log (commands 0 (pending index)) first (barriers_left (commands 0 (pending index)) (commands 0 b) back))
-      (barriers-append (commands 0 a) (commands 0 b) front (barriers_right (commands 0 (pending index)) (commands 0 b) back)))
+      let now : AreRecordable (log ++ (commands 0 a ++ (commands 0 (pending index) ++ commands 0 b)))
+      = subst AreRecordable (ap (λ l. log ++ commands 0 l) (order_now pending xs index at) ∙ three_parts log a (pending index) b) all in
+      recordable_left (commands 0 (pending index)) (commands 0 b)
+      (recordable_right (commands 0 a) (commands 0 (pending index) ++ commands 0 b) (recordable_right log (commands 0 a ++ (commands 0 (pending index) ++ commands 0 b)) now))
+
+  pub recordable_flushed : AreRecordable (log ++ commands 0 (flat_map pending xs)) → AreRecordable ((log ++ commands 0 (pending index)) ++ commands 0 (flat_map (put pending index []) xs))
+  recordable_flushed all =
+      let a : List Node = before pending xs index at in
+      let b : List Node = behind pending xs index at in
+      let now : AreRecordable (log ++ (commands 0 a ++ (commands 0 (pending index) ++ commands 0 b)))
+      = subst AreRecordable (ap (λ l. log ++ commands 0 l) (order_now pending xs index at) ∙ three_parts log a (pending index) b) all in
+      let first = recordable_left log (commands 0 a ++ (commands 0 (pending index) ++ commands 0 b)) now in
+      let rest = recordable_right log (commands 0 a ++ (commands 0 (pending index) ++ commands 0 b)) now in
+      let front = recordable_left (commands 0 a) (commands 0 (pending index) ++ commands 0 b) rest in
+      let back = recordable_right (commands 0 a) (commands 0 (pending index) ++ commands 0 b) rest in
+      subst (λ l. AreRecordable ((log ++ commands 0 (pending index)) ++ l)) (sym (ap (commands 0) (order_with pending xs index at []) ∙ map-append (Command 0) a b))
+      (recordable-append (log ++ commands 0 (pending index)) (commands 0 a ++ commands 0 b)
+      (recordable-append log (commands 0 (pending index)) first (recordable_left (commands 0 (pending index)) (commands 0 b) back))
+      (recordable-append (commands 0 a) (commands 0 b) front (recordable_right (commands 0 (pending index)) (commands 0 b) back)))
 
   -- nodes are recorded in one context
   pub sound_recorded : ChangePlaces → Mutual → HaveNoneEmpty pending → (nodes : List Node) → All NoneEmpty nodes → ((i : ℕ) → i ≢ index → NoConflict nodes (pending i))
@@ -202,21 +212,21 @@ module _ (pending : ℕ → List Node) (xs : List ℕ) (index : ℕ) (at : Split
       (behind_all pending xs index at (λ l. NoConflict l nodes) tt (λ ys zs. apart_left ys zs nodes) (λ i ne. apart_turned turn nodes (pending i) (apart i ne)))
       (subst (λ l. IsSound ((log ++ commands 0 l) ++ commands 0 nodes)) (order_now pending xs index at ∙ sym (append_assoc a (pending index) b)) sound))
 
-  pub barriers_recorded : (nodes : List Node) → HaveFullBarriers (commands 0 nodes) → HaveFullBarriers (log ++ commands 0 (flat_map pending xs)) → HaveFullBarriers (log ++ commands 0 (flat_map (put pending index (pending index ++ nodes)) xs))
-  barriers_recorded nodes own full =
+  pub recordable_recorded : (nodes : List Node) → AreRecordable (commands 0 nodes) → AreRecordable (log ++ commands 0 (flat_map pending xs)) → AreRecordable (log ++ commands 0 (flat_map (put pending index (pending index ++ nodes)) xs))
+  recordable_recorded nodes own all =
       let a : List Node = before pending xs index at in
       let b : List Node = behind pending xs index at in
-      let now : HaveFullBarriers (log ++ (commands 0 a ++ (commands 0 (pending index) ++ commands 0 b)))
-      = subst HaveFullBarriers (ap (λ l. log ++ commands 0 l) (order_now pending xs index at) ∙ three_parts log a (pending index) b) full in
-      let first = barriers_left log (commands 0 a ++ (commands 0 (pending index) ++ commands 0 b)) now in
-      let rest = barriers_right log (commands 0 a ++ (commands 0 (pending index) ++ commands 0 b)) now in
-      let front = barriers_left (commands 0 a) (commands 0 (pending index) ++ commands 0 b) rest in
-      let back = barriers_right (commands 0 a) (commands 0 (pending index) ++ commands 0 b) rest in
+      let now : AreRecordable (log ++ (commands 0 a ++ (commands 0 (pending index) ++ commands 0 b)))
+      = subst AreRecordable (ap (λ l. log ++ commands 0 l) (order_now pending xs index at) ∙ three_parts log a (pending index) b) all in
+      let first = recordable_left log (commands 0 a ++ (commands 0 (pending index) ++ commands 0 b)) now in
+      let rest = recordable_right log (commands 0 a ++ (commands 0 (pending index) ++ commands 0 b)) now in
+      let front = recordable_left (commands 0 a) (commands 0 (pending index) ++ commands 0 b) rest in
+      let back = recordable_right (commands 0 a) (commands 0 (pending index) ++ commands 0 b) rest in
       let is : log ++ (commands 0 a ++ ((commands 0 (pending index) ++ commands 0 nodes) ++ commands 0 b)) ≡ log ++ commands 0 (flat_map (put pending index (pending index ++ nodes)) xs)
       = ap (λ l. log ++ (commands 0 a ++ (l ++ commands 0 b))) (sym (map-append (Command 0) (pending index) nodes)) ∙ sym (three_parts log a (pending index ++ nodes) b) ∙ ap (λ l. log ++ commands 0 l) (sym (order_with pending xs index at (pending index ++ nodes))) in
-      subst HaveFullBarriers is
-      (barriers-append log (commands 0 a ++ ((commands 0 (pending index) ++ commands 0 nodes) ++ commands 0 b)) first
-      (barriers-append (commands 0 a) ((commands 0 (pending index) ++ commands 0 nodes) ++ commands 0 b) front
-      (barriers-append (commands 0 (pending index) ++ commands 0 nodes) (commands 0 b)
-      (barriers-append (commands 0 (pending index)) (commands 0 nodes) (barriers_left (commands 0 (pending index)) (commands 0 b) back) own)
-      (barriers_right (commands 0 (pending index)) (commands 0 b) back))))
+      subst AreRecordable is
+      (recordable-append log (commands 0 a ++ ((commands 0 (pending index) ++ commands 0 nodes) ++ commands 0 b)) first
+      (recordable-append (commands 0 a) ((commands 0 (pending index) ++ commands 0 nodes) ++ commands 0 b) front
+      (recordable-append (commands 0 (pending index) ++ commands 0 nodes) (commands 0 b)
+      (recordable-append (commands 0 (pending index)) (commands 0 nodes) (recordable_left (commands 0 (pending index)) (commands 0 b) back) own)
+      (recordable_right (commands 0 (pending index)) (commands 0 b) back))))

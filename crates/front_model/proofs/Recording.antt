@@ -14,12 +14,12 @@ use Rattle.back_core.specs.Own.{Own, Enqueued, log_of, batches_of, batch_touches
 use Rattle.back_core.specs.Link.{Link, put, enqueued}
 use Rattle.back_core.specs.Needs.{IsOfGroup, MayTouch}
 use Rattle.front_model.specs.Face.{Object, Slot, Stored, Face, nodes_touch, indexes_of, in_order}
-use Rattle.front_model.specs.Stands.{Hands, Store, Staging, InHand, use_of, SlotStands, StoredStands, HandStands, IsPastUse, HaveFullBarriers, Holds}
+use Rattle.front_model.specs.Stands.{Hands, Store, Staging, InHand, use_of, SlotStands, StoredStands, HandStands, IsPastUse, AreRecordable, Holds}
 use Rattle.front_model.specs.Steps.{noted, noted_store, with_nodes, noted_hands, IsTarget, MayRecord, IsNextBatch, flushed}
 use Rattle.front_model.proofs.Base.{put-same, put-other, put_at, put_holds, map_is, map_some, some_is, nodes_touch-append}
 use Rattle.front_model.proofs.Uses.{log_then, number_then, use_then, use_apart}
-use Rattle.front_model.proofs.Sounds.{barriers_nodes}
-use Rattle.front_model.proofs.Orders.{Mutual, ChangePlaces, none_left, none_right, apart_left, apart_right, apart_turned, split, sound_flushed, barriers_flushed, sound_recorded, barriers_recorded}
+use Rattle.front_model.proofs.Sounds.{recordable_nodes}
+use Rattle.front_model.proofs.Orders.{Mutual, ChangePlaces, none_left, none_right, apart_left, apart_right, apart_turned, split, sound_flushed, recordable_flushed, sound_recorded, recordable_recorded}
 use Rattle.front_model.proofs.Standing.{SameSlot, waiting_kept, stored_kept, hand_kept, staging_stands}
 
 -- The pending nodes become a batch
@@ -97,7 +97,7 @@ module _ (f : Face) (hands : Hands) (s : Link) (index : ℕ) (batch : Batch) (h 
       let same : (j : ℕ) → SameSlot f g s t j = λ j. record { held = refl; kind = refl; uses = flushed_use j } in
       record {
         sound = subst (λ l. IsSound (l ++ commands 0 (in_order g))) (sym log_now) (sound_flushed f.pending (indexes_of f.group) index (split f.group index own) (log_of s.mine) change h.apart h.none_empty h.sound);
-        barriers = subst (λ l. HaveFullBarriers (l ++ commands 0 (in_order g))) (sym log_now) (barriers_flushed f.pending (indexes_of f.group) index (split f.group index own) (log_of s.mine) h.barriers);
+        recordable = subst (λ l. AreRecordable (l ++ commands 0 (in_order g))) (sym log_now) (recordable_flushed f.pending (indexes_of f.group) index (split f.group index own) (log_of s.mine) h.recordable);
         apart = λ i j ne. put_holds (λ l. NoConflict l (g.pending j)) f.pending index [] i (λ e. none_left (g.pending j))
             (λ other. put_holds (NoConflict (f.pending i)) f.pending index [] j (λ e. none_right (f.pending i)) (λ other. h.apart i j ne));
         fits = λ i. put_holds (All (NodeFits s.kinds)) f.pending index [] i (λ e. All-nil (NodeFits s.kinds)) (λ ne. h.fits i);
@@ -219,7 +219,7 @@ module _ (f : Face) (hands : Hands) (s : Link) (index : ℕ) (nodes : List Node)
       let both : List Node = f.pending index ++ nodes in
       record {
         sound = sound_recorded f.pending (indexes_of f.group) index (split f.group index may.of_group) (log_of s.mine) change turn h.none_empty nodes may.none_empty may.apart may.sound;
-        barriers = barriers_recorded f.pending (indexes_of f.group) index (split f.group index may.of_group) (log_of s.mine) nodes (barriers_nodes nodes may.barriers) h.barriers;
+        recordable = recordable_recorded f.pending (indexes_of f.group) index (split f.group index may.of_group) (log_of s.mine) nodes (recordable_nodes nodes may.recordable) h.recordable;
         apart = λ i j ne. put_holds (λ l. NoConflict l (g.pending j)) f.pending index both i
             (λ e. put_holds (NoConflict both) f.pending index both j (λ e'. absurd (ne (e ∙ sym e')))
             (λ ne'. apart_left (f.pending index) nodes (f.pending j) (h.apart index j (λ e'. ne' (sym e'))) (may.apart j ne')))

@@ -1,6 +1,6 @@
 -- Parts of sound logs, and sound logs with a write by the host.
 use Rattle.std.proofs.Common.{◌≡◌, ℕ, ◌+◌, ◌<◌, zero, suc, List, get_or, [], ◌∷◌, ◌++◌, length, take, refl, sym, ◌∙◌, ap, subst, arith, inl, inr}
-use Rattle.std.specs.Prelude.{◌⊎◌, Some, None, slice_get, IfSome, All}
+use Rattle.std.specs.Prelude.{◌⊎◌, Some, None, slice_get, All}
 use Rattle.std.proofs.lemmas.List.{take-append-le}
 use Rattle.std.proofs.lemmas.Bool.{cases_order}
 use Rattle.std.proofs.lemmas.Option.{IfSome_then, slice_get_within, same_Some, slice_get-map, get_or_from_slice_get}
@@ -8,8 +8,8 @@ use Rattle.vk_types.specs.declared.accesses.Layout.{Layout}
 use Rattle.vk_types.specs.declared.accesses.Layout.TheVariants.{Undefined}
 use Rattle.vk_types.specs.declared.ops.Node.{Node}
 use Rattle.vk_types.specs.Touches.{touches, barrier_of}
-use Rattle.vk_model.specs.Log.{Item, Command, HostWrite, HasEdge, Reaches, direct, further, layout_step, layout_from, layout_after, FindsLayouts, IsSound, Conflicts, NamesAll, commands}
-use Rattle.front_model.specs.Stands.{HaveFullBarriers}
+use Rattle.vk_model.specs.Log.{Item, Command, HostWrite, HasEdge, Reaches, direct, further, layout_step, layout_from, layout_after, FindsLayouts, IsSound, Conflicts, commands}
+use Rattle.front_model.specs.Stands.{IsRecordable, AreRecordable}
 use Rattle.front_model.proofs.Base.{map_is}
 
 -- Places in a list of two parts
@@ -156,25 +156,25 @@ module _ (id at : ℕ) (bytes : List ℕ) where
           (finds_same (take x.old (front ++ back)) (take (shifted front x.old) (front ++ HostWrite id at bytes ∷ back)) n
           (λ object. sym (layout_shifted front back x.old object Undefined)) (sound.laid_out x.old q n x.at_old))
 
--- Full barriers
+-- What a front may record
 
 module _ (xs ys : List Item) where
-  pub barriers_left : HaveFullBarriers (xs ++ ys) → HaveFullBarriers xs
-  barriers_left full k q n at = full k q n (get_left xs ys k (Command q n) at)
+  pub recordable_left : AreRecordable (xs ++ ys) → AreRecordable xs
+  recordable_left all k q n at = all k q n (get_left xs ys k (Command q n) at)
 
-  pub barriers_right : HaveFullBarriers (xs ++ ys) → HaveFullBarriers ys
-  barriers_right full k q n at = full (length xs + k) q n (get_right xs ys k (Command q n) at)
+  pub recordable_right : AreRecordable (xs ++ ys) → AreRecordable ys
+  recordable_right all k q n at = all (length xs + k) q n (get_right xs ys k (Command q n) at)
 
-  pub barriers-append : HaveFullBarriers xs → HaveFullBarriers ys → HaveFullBarriers (xs ++ ys)
-  barriers-append left right k q n at = elim (get_either xs ys k (Command q n) at) [ inl e ↦ left k q n e | inr e ↦ right e.0 q n e.2 ]
+  pub recordable-append : AreRecordable xs → AreRecordable ys → AreRecordable (xs ++ ys)
+  recordable-append left right k q n at = elim (get_either xs ys k (Command q n) at) [ inl e ↦ left k q n e | inr e ↦ right e.0 q n e.2 ]
 
-pub barriers_write : (id at : ℕ) (bytes : List ℕ) → HaveFullBarriers (HostWrite id at bytes ∷ [])
-barriers_write id at bytes zero q n e = let both : HostWrite id at bytes ≡ Command q n = same_Some (HostWrite id at bytes) (Command q n) e in cc
-barriers_write id at bytes (suc k) q n e = let none : None ≡ Some (Command q n) = e in cc
+pub recordable_write : (id at : ℕ) (bytes : List ℕ) → AreRecordable (HostWrite id at bytes ∷ [])
+recordable_write id at bytes zero q n e = let both : HostWrite id at bytes ≡ Command q n = same_Some (HostWrite id at bytes) (Command q n) e in cc
+recordable_write id at bytes (suc k) q n e = let none : None ≡ Some (Command q n) = e in cc
 
-pub barriers_nodes : (nodes : List Node) → All (λ n. IfSome (barrier_of n) NamesAll) nodes → HaveFullBarriers (commands 0 nodes)
-barriers_nodes nodes all k q n at =
+pub recordable_nodes : (nodes : List Node) → All IsRecordable nodes → AreRecordable (commands 0 nodes)
+recordable_nodes nodes all k q n at =
     let found = map_is (Command 0) (slice_get nodes k) (Command q n) (sym (slice_get-map (Command 0) nodes k) ∙ at) in
     let same : found.0 ≡ n = let e : Command 0 found.0 ≡ Command q n = found.2 in cc in
     let here = all k found.0 (slice_get_within nodes k found.0 found.1) in
-    subst (λ m. IfSome (barrier_of m) NamesAll) (get_or_from_slice_get nodes k found.0 found.0 found.1 ∙ same) here
+    subst IsRecordable (get_or_from_slice_get nodes k found.0 found.0 found.1 ∙ same) here

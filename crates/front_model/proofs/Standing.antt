@@ -6,7 +6,7 @@ use Rattle.vk_types.specs.declared.ops.Op.{Op}
 use Rattle.vk_types.specs.declared.ops.Op.TheVariants.{CopyBuffer, BufferToImage, ImageToBuffer, CopyImage, BlitImage, ClearImage, FillBuffer, PassPart}
 use Rattle.vk_types.specs.declared.ops.Node.{Node}
 use Rattle.vk_types.specs.Touches.{rows_size, buffer_texel}
-use Rattle.vk_model.specs.Fitting.{HasRange, HasRect, HasTexels, IsImage, format_in, OpFits, NodeFits}
+use Rattle.vk_model.specs.Fitting.{HasRange, HasRect, HasTexels, IsImage, format_in, LayoutsFit, OpFits, NodeFits}
 use Rattle.back_core.specs.Link.{Link}
 use Rattle.front_model.specs.Face.{Object, Waiting, Slot, Stored, Face}
 use Rattle.front_model.specs.Stands.{Owner, Store, Staging, InHand, use_of, SlotStands, StagingStands, WaitingStands, StoredStands, HandStands, HasHandle}
@@ -61,7 +61,7 @@ module _ (old new : ℕ → Option Kind) (grows : KindsGrow old new) where
     kind_kept IsImage (λ h. h) (old image.0) (new image.0) (grows image.0) fits.0,
     λ k d lt. kind_kept (λ kind. HasRect kind (get_or clears k d).rect) (λ h. h) (old image.0) (new image.0) (grows image.0) (fits.1 k d lt),
   )
-  op_fits_more (Op.Barrier b) fits = kind_kept (λ k. IsSome k) (λ h. let no : false ≡ true = h in cc) (old b.id.0) (new b.id.0) (grows b.id.0) fits
+  op_fits_more (Op.Barrier b) fits = kind_kept (λ k. LayoutsFit k b.layouts) (λ h. h) (old b.id.0) (new b.id.0) (grows b.id.0) fits
 
   pub fits_more : (n : Node) → NodeFits old n → NodeFits new n
   fits_more n fits = op_fits_more n.op fits

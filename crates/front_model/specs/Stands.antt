@@ -1,6 +1,8 @@
 -- When a front stands on what its group sees of the back.
 use Rattle.std.specs.Prelude.{◌≡◌, ◌≢◌, ℕ, ◌+◌, ◌<◌, ◌≤◌, ◌⊎◌, true, false, if◌then◌else◌, Option, Some, None, IfSome, IsSome, List, [], length, slice_get, All}
 use Rattle.vk_types.specs.declared.batches.QueueSerial.{QueueSerial}
+use Rattle.vk_types.specs.declared.ops.Op.{Op}
+use Rattle.vk_types.specs.declared.ops.Op.TheVariants as op
 use Rattle.vk_types.specs.declared.ops.Node.{Node}
 use Rattle.vk_types.specs.Touches.{barrier_of}
 use Rattle.vk_model.specs.Log.{Item, Command, IsSound, NoneEmpty, NoConflict, NamesAll}
@@ -77,11 +79,33 @@ IsPastUse f s id index number =
 abbrev pub HaveFullBarriers : List Item → Type 0
 HaveFullBarriers log = (k queue : ℕ) (n : Node) → slice_get log k ≡ Some (Command queue n) → IfSome (barrier_of n) NamesAll
 
+-- The operation writes nothing but what it reads: no constants, by which a front could bring in what it computed on the host.
+-- Clears of images, also those of passes, will be counted once they are recorded.
+abbrev pub WritesNoConstants : Op → Type 0
+WritesNoConstants (op.CopyBuffer src src_at dst dst_at size) = Unit {0}
+WritesNoConstants (op.BufferToImage src src_at stride texel_size dst rect) = Unit {0}
+WritesNoConstants (op.ImageToBuffer src rect dst dst_at stride texel_size expand) = Unit {0}
+WritesNoConstants (op.CopyImage src src_x src_y dst rect) = Unit {0}
+WritesNoConstants (op.BlitImage src dst coords clip) = Unit {0}
+WritesNoConstants (op.ClearImage image rect texel) = ⊥
+WritesNoConstants (op.FillBuffer dst dst_at size byte) = ⊥
+WritesNoConstants (op.PassPart _ _ image _ _ _) = ⊥
+WritesNoConstants (op.Barrier b) = Unit {0}
+
+-- what a front may record: a barrier names all kinds of access on both sides, and no node writes constants
+pub record IsRecordable (n : Node) : Type 0 where
+  pub full : IfSome (barrier_of n) NamesAll
+  pub plain : WritesNoConstants n.op
+
+-- a front may record each command of the log
+abbrev pub AreRecordable : List Item → Type 0
+AreRecordable log = (k queue : ℕ) (n : Node) → slice_get log k ≡ Some (Command queue n) → IsRecordable n
+
 -- Everything but that the contents are the right ones.
 pub record Holds (f : Face) (hands : Hands) (s : Link) : Type 0 where
-  -- the log: its nodes are in order, and nodes of two contexts that are pending do not conflict
+  -- the log: its nodes are in order, a front may record them, and nodes of two contexts that are pending do not conflict
   pub sound : IsSound (whole_log f s)
-  pub barriers : HaveFullBarriers (whole_log f s)
+  pub recordable : AreRecordable (whole_log f s)
   pub apart : (i j : ℕ) → i ≢ j → NoConflict (f.pending i) (f.pending j)
   pub fits : (index : ℕ) → All (NodeFits s.kinds) (f.pending index)
   pub none_empty : (index : ℕ) → All NoneEmpty (f.pending index)

@@ -1,5 +1,5 @@
 -- The steps of which moves are made.
-use Rattle.std.specs.Prelude.{◌≡◌, ◌≢◌, ℕ, zero, suc, ◌+◌, ◌<◌, ◌==◌, ◌&&◌, ◌⊎◌, true, if◌then◌else◌, Option, Some, None, IfSome, List, [], ◌∷◌, ◌++◌, length, map, All, IsSome}
+use Rattle.std.specs.Prelude.{◌≡◌, ◌≢◌, ℕ, zero, suc, ◌+◌, ◌<◌, ◌==◌, ◌&&◌, ◌⊎◌, true, if◌then◌else◌, Option, Some, None, List, [], ◌∷◌, ◌++◌, length, map, All, IsSome}
 use Rattle.std.specs.Option.{option_map}
 use Rattle.vk_types.specs.declared.handles.HandleId.{HandleId}
 use Rattle.vk_types.specs.declared.handles.Kind.{Kind}
@@ -8,15 +8,15 @@ use Rattle.vk_types.specs.declared.ops.Node.{Node}
 use Rattle.vk_types.specs.declared.batches.Batch.{Batch}
 use Rattle.vk_types.specs.declared.batches.QueueSerial.{QueueSerial}
 use Rattle.vk_types.specs.Accesses.{all_access}
-use Rattle.vk_types.specs.Touches.{touches, barrier_of}
-use Rattle.vk_model.specs.Log.{commands, IsSound, NoneEmpty, NoConflict, NamesAll}
+use Rattle.vk_types.specs.Touches.{touches}
+use Rattle.vk_model.specs.Log.{commands, IsSound, NoneEmpty, NoConflict}
 use Rattle.vk_model.specs.Fitting.{NodeFits}
 use Rattle.vk_device.specs.Order.{IsOfOneQueue}
 use Rattle.resource_use.specs.Uses.{number_of}
 use Rattle.back_core.specs.Link.{Link, put}
 use Rattle.back_core.specs.Needs.{IsOfGroup}
 use Rattle.front_model.specs.Face.{Object, Waiting, Slot, Stored, Face, put_object, nodes_touch, whole_log}
-use Rattle.front_model.specs.Stands.{Hands}
+use Rattle.front_model.specs.Stands.{Hands, IsRecordable}
 
 -- Handles
 
@@ -55,7 +55,7 @@ IsTarget f hands id = IsSome (hands id) ⊎ ((o : Object) × (b : Stored) × (f.
 pub record MayRecord (f : Face) (hands : Hands) (s : Link) (index : ℕ) (nodes : List Node) : Type 0 where
   pub of_group : IsOfGroup f.group index
   pub sound : IsSound (whole_log f s ++ commands 0 nodes)
-  pub barriers : All (λ n. IfSome (barrier_of n) NamesAll) nodes
+  pub recordable : All IsRecordable nodes
   pub fits : All (NodeFits s.kinds) nodes
   pub none_empty : All NoneEmpty nodes
   pub few : length (f.pending index) + length nodes < 4294967294

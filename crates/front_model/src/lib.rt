@@ -2,13 +2,17 @@
 //! back: the steps of which its moves are made keep that, and change what its objects hold as they say.
 #![tactic(auto)]
 
+mod constants_laws;
 mod fresh_laws;
+mod learning_laws;
 mod quiet_laws;
 mod state_laws;
 mod step_laws;
 mod view_laws;
 
+pub use constants_laws::no_constants_are_recorded;
 pub use fresh_laws::fresh_handles_show;
+pub use learning_laws::fronts_learn;
 pub use quiet_laws::quiet_objects_show;
 pub use state_laws::{
     accepted_calls_are_in_range, calls_keep_agreement, calls_keep_stores,

@@ -14,7 +14,7 @@ ghost use Rattle.back_core.specs.Link.{Link, created, wrote, enqueued, fetched, 
 ghost use Rattle.back_core.specs.Needs.{IsOfGroup, IsFresh};
 ghost use Rattle.back_core.specs.Answers.{Learns};
 ghost use Rattle.front_model.specs.Face.{Object, Waiting, Slot, Stored, Face, put_object, view, recorded, nodes_touch, whole_log};
-ghost use Rattle.front_model.specs.Stands.{Hands, no_hands, HaveFullBarriers, Holds, new_face};
+ghost use Rattle.front_model.specs.Stands.{Hands, no_hands, HaveFullBarriers, AreRecordable, Holds, new_face};
 ghost use Rattle.front_model.specs.Steps.{fresh_slot, with_nodes, MayRecord, IsNextBatch, flushed, with_object, stored_as, with_waiting, taken_from, fenced, full_barrier, HasNoLayout};
 
 /// A front with nothing in it shows nothing. The link's steps change no view, but for a write into the store of an object.
@@ -85,6 +85,7 @@ pub fn front_steps_show()
 pub fn fenced_nodes_stay_sound()
     ensures node { (log : List Item) (n : Node) → IsSound log → IsOneQueue log → HaveFullBarriers log → HasNoLayout n → barrier_of n ≡ None → IsSound (log ++ commands 0 (fenced n)) }
     ensures barrier { (log : List Item) (id : HandleId) → IsSound log → IsOneQueue log → HaveFullBarriers log → IsSound (log ++ commands 0 (full_barrier id ∷ [])) }
+    ensures full { (log : List Item) → AreRecordable log → HaveFullBarriers log }
     ensures one_queue { (f : Face) (s : Link) → IsOneQueue (whole_log f s) }
     ensures shows { (kinds : ℕ → Kind) (id : HandleId) (c : ℕ → ℕ → ℕ) → after_all kinds (commands 0 (full_barrier id ∷ [])) c ≡ c }
 {}
