@@ -1,7 +1,12 @@
+pub mod AtBack
 pub mod BufferLaws
 pub mod BufferStores
+pub mod ClosedFronts
+pub mod EndedBuffers
 pub mod Faces
 pub mod Flushing
+pub mod Handing
+pub mod MovesInTurn
 pub mod Outcomes
 pub mod Preparing
 pub mod Reading
@@ -10,7 +15,3 @@ pub mod Recorded
 pub mod Settling
 pub mod Uploads
 pub mod Waiting
-pub mod MovesInTurn
-pub mod EndedBuffers
-pub mod ClosedFronts
-pub mod Uploaded

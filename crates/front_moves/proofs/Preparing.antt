@@ -2,7 +2,7 @@
 use Rattle.std.proofs.Common.{◌≡◌, ◌≢◌, not, nat_eq, ℕ, ◌+◌, ◌*◌, ◌<◌, ◌≤◌, Bool, true, false, [], length, refl, sym, ap, subst, ◌∙◌, arith, inl, inr}
 use Rattle.std.specs.Prelude.{◌⊎◌, Some, IfSome, nat_lt, Result, Ok, Err, OnOk}
 use Rattle.std.specs.Option.{option_map}
-use Rattle.std.proofs.lemmas.Bool.{cases_eq, cases_lt, cond-true, cond-false, ne_eqb}
+use Rattle.std.proofs.lemmas.Bool.{cases_eq, cases_lt, cond-true, cond-false, eq-eqb, ne_eqb}
 use Rattle.std.proofs.lemmas.Bool.Decides.{nat_tests}
 use Rattle.vk_types.specs.declared.stops.Stop.{Stop}
 use Rattle.vk_device.specs.Faults.{HasCause}
@@ -162,6 +162,9 @@ same_by_test a b test is none = elim (cases_eq a b) [
   | inl same ↦ same
   | inr other ↦ let e : nat_eq a b ≡ false = ne_eqb a b other in let no : true ≡ false = sym (ap not e) ∙ sym is ∙ none in cc
 ]
+
+pub other_by_test : (a b : ℕ) (test : Bool) → test ≡ not (nat_eq a b) → test ≡ true → a ≢ b
+other_by_test a b test is told same = let no : true ≡ false = sym told ∙ is ∙ ap not (eq-eqb a b same) in cc
 
 pub few_flushed : (f g : Face) (index : ℕ) → IsFlushed f g index → length (g.pending index) < 1024
 few_flushed f g index one =

@@ -1,6 +1,6 @@
 -- Copies and barriers of buffers may be recorded.
 use Rattle.std.proofs.Common.{◌≡◌, ◌≢◌, ℕ, ◌+◌, ◌<◌, ◌≤◌, ◌==◌, Bool, true, false, List, [], ◌∷◌, ◌++◌, length, refl, sym, ◌∙◌, subst, arith, inl, inr}
-use Rattle.std.specs.Prelude.{◌⊎◌, ◌||◌, min, Option, Some, None, IfSome, IsSome, All}
+use Rattle.std.specs.Prelude.{◌⊎◌, ◌||◌, min, Option, Some, None, All}
 use Rattle.std.specs.List.{AllByRecursion}
 use Rattle.std.proofs.lemmas.Bool.{false≢true, false_from_ne_true, or_left, or_right, or_cases, eqb-true}
 use Rattle.std.proofs.lemmas.List.Elements.{All-nil, All-cons}
@@ -11,14 +11,14 @@ use Rattle.vk_types.specs.declared.regions.Touch.{Touch}
 use Rattle.vk_types.specs.declared.ops.Op.TheVariants as op
 use Rattle.vk_types.specs.declared.ops.Node.{Node}
 use Rattle.vk_types.specs.Accesses.{no_access, transfer_read, transfer_write}
-use Rattle.vk_types.specs.Touches.{barrier_of, part, whole, the_end}
-use Rattle.vk_model.specs.Log.{IsSound, NoneEmpty, NoConflict, NamesAll, commands, conflict, touches_object}
-use Rattle.vk_model.specs.Fitting.{HasRange, NodeFits}
+use Rattle.vk_types.specs.Touches.{part, whole, the_end}
+use Rattle.vk_model.specs.Log.{IsSound, NoneEmpty, NoConflict, commands, conflict, touches_object}
+use Rattle.vk_model.specs.Fitting.{HasRange, LayoutsFit, NodeFits}
 use Rattle.vk_model.proofs.Clashes.{Shares, shares}
 use Rattle.back_core.specs.Link.{Link}
 use Rattle.back_core.specs.Needs.{IsOfGroup}
 use Rattle.front_model.specs.Face.{Face, whole_log, nodes_touch}
-use Rattle.front_model.specs.Stands.{Hands}
+use Rattle.front_model.specs.Stands.{Hands, IsRecordable}
 use Rattle.front_model.specs.Steps.{MayRecord, IsTarget, HasNoLayout, full_barrier, fenced}
 
 -- What they touch
@@ -77,10 +77,14 @@ copy_no_layout src src_at dst dst_at size =
 three : (P : Node → Type 0) (x y z : Node) → P x → P y → P z → All P (x ∷ y ∷ z ∷ [])
 three P x y z a b c = All-cons P x (y ∷ z ∷ []) a (All-cons P y (z ∷ []) b (All-cons P z [] c (All-nil P)))
 
-is_live : (k : Option Kind) (at size : ℕ) → HasRange k at size → IsSome k
-is_live None at size bad = absurd bad
-is_live (Some (kind.Buffer len)) at size range = refl
-is_live (Some (kind.Image format width height)) at size bad = absurd bad
+-- a barrier that leaves the layout fits a buffer
+layouts_fit : (k : Option Kind) (at size : ℕ) → HasRange k at size → LayoutsFit k None
+layouts_fit None at size bad = absurd bad
+layouts_fit (Some (kind.Buffer len)) at size range = refl
+layouts_fit (Some (kind.Image format width height)) at size bad = absurd bad
+
+barrier_recordable : (id : HandleId) → IsRecordable (full_barrier id)
+barrier_recordable id = record { full = (refl, refl); plain = tt }
 
 barrier_not_empty : (id : HandleId) → NoneEmpty (full_barrier id)
 barrier_not_empty id = All-cons (λ (t : Touch). t.start < t.end) (whole id no_access None) [] (omega arith) (All-nil (λ (t : Touch). t.start < t.end))
@@ -106,8 +110,8 @@ pub copy_may : (f : Face) (hands : Hands) (s : Link) (index : ℕ) (src : Handle
 copy_may f hands s index src src_at dst dst_at size own few sound some from to apart = record {
   of_group = own;
   sound = sound;
-  barriers = three (λ n. IfSome (barrier_of n) NamesAll) (full_barrier src) (full_barrier dst) copy (refl, refl) (refl, refl) tt;
-  fits = three (NodeFits s.kinds) (full_barrier src) (full_barrier dst) copy (is_live (s.kinds src.0) src_at size from.range) (is_live (s.kinds dst.0) dst_at size to.range) (from.range, to.range, apart);
+  recordable = three IsRecordable (full_barrier src) (full_barrier dst) copy (barrier_recordable src) (barrier_recordable dst) (record { full = tt; plain = tt });
+  fits = three (NodeFits s.kinds) (full_barrier src) (full_barrier dst) copy (layouts_fit (s.kinds src.0) src_at size from.range) (layouts_fit (s.kinds dst.0) dst_at size to.range) (from.range, to.range, apart);
   none_empty = three NoneEmpty (full_barrier src) (full_barrier dst) copy (barrier_not_empty src) (barrier_not_empty dst) (copy_not_empty src src_at dst dst_at size some from.end to.end);
   few = omega (arith, few);
   apart = λ i ne. apart_where (fenced copy) (f.pending i) (λ id touch. by (λ j. nodes_touch (f.pending i) j ≡ false) id (from.parted i ne) (to.parted i ne) touch);
@@ -126,13 +130,13 @@ copy_may f hands s index src src_at dst dst_at size own few sound some from to a
 -- A barrier alone
 
 pub barrier_may : (f : Face) (hands : Hands) (s : Link) (index : ℕ) (id : HandleId) → IsOfGroup f.group index → length (f.pending index) < 1024 →
-    IsSound (whole_log f s ++ commands 0 (full_barrier id ∷ [])) → IsSome (s.kinds id.0) → IsTarget f hands id.0 →
+    IsSound (whole_log f s ++ commands 0 (full_barrier id ∷ [])) → NodeFits s.kinds (full_barrier id) → IsTarget f hands id.0 →
     ((i : ℕ) → i ≢ index → nodes_touch (f.pending i) id.0 ≡ false) → MayRecord f hands s index (full_barrier id ∷ [])
-barrier_may f hands s index id own few sound live target parted = record {
+barrier_may f hands s index id own few sound fits target parted = record {
   of_group = own;
   sound = sound;
-  barriers = All-cons (λ n. IfSome (barrier_of n) NamesAll) (full_barrier id) [] (refl, refl) (All-nil (λ n. IfSome (barrier_of n) NamesAll));
-  fits = All-cons (NodeFits s.kinds) (full_barrier id) [] live (All-nil (NodeFits s.kinds));
+  recordable = All-cons IsRecordable (full_barrier id) [] (barrier_recordable id) (All-nil IsRecordable);
+  fits = All-cons (NodeFits s.kinds) (full_barrier id) [] fits (All-nil (NodeFits s.kinds));
   none_empty = All-cons NoneEmpty (full_barrier id) [] (barrier_not_empty id) (All-nil NoneEmpty);
   few = omega (arith, few);
   apart = λ i ne. apart_where (full_barrier id ∷ []) (f.pending i) (λ j touch. subst (λ k. nodes_touch (f.pending i) k ≡ false) (same j touch) (parted i ne));

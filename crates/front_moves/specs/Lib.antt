@@ -2,4 +2,4 @@ pub mod Buffers
 pub mod Core
 pub mod Ending
 pub mod Recording
-pub mod Uploads
+pub mod Reasons

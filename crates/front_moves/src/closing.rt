@@ -1,15 +1,15 @@
 // How a front ends: each context is flushed and each store given away, or each store is let go.
-ghost use Rattle.std.specs.Prelude.{◌≡◌, ℕ, ◌≤◌, [], false, Some, None, OnOk, OnErr};
+ghost use Rattle.std.specs.Prelude.{◌≡◌, ℕ, ◌≤◌, [], false, Some, None, OnOk, OnErr, is_err};
 ghost use Rattle.vk_device.specs.Faults.{HasCause};
 ghost use Rattle.front_model.specs.Face.{Object, Stored};
 ghost use Rattle.front_model.specs.Stands.{Holds, Owns, no_hands};
 ghost use Rattle.front_moves.specs.Core.{face};
 ghost use Rattle.front_moves.specs.Ending.{HasClosed};
-ghost use Rattle.front_moves.specs.Uploads.{uploaded};
+ghost use Rattle.back_core.specs.Frame.{ActsAtBack, NoBatch};
+ghost use Rattle.front_moves.specs.Reasons.{IsEnding};
 
 use crate::closing_comes_to::{abandon_comes_to, close_comes_to};
 use crate::group_core::Core;
-use crate::uploads_come_to::uploads_come_to;
 use back_core::BackLink;
 use garbage::Garbage;
 use vk_types::{Reason, SerialIndex, Stop};
@@ -22,8 +22,7 @@ impl Core {
         ensures group { (face self.new).group ≡ (face self.old).group }
         ensures err { OnErr result (Owns (face self.new).objects (L.state link.new)) }
         ensures cause { HasCause (L.faults link.old) (L.faults link.new) result }
-        ensures outside { L.outside link.new ≡ L.outside link.old }
-        ensures uploads { uploaded (L.state link.new).mine ≤ uploaded (L.state link.old).mine }
+        ensures at_back { ActsAtBack L.state L.told link.old link.new 0 false (is_err result) IsEnding }
     {
         close_comes_to();
         match self.flush_each(link) {
@@ -43,8 +42,7 @@ impl Core {
         ensures group { (face self.new).group ≡ (face self.old).group }
         ensures err { OnErr result (Owns (face self.new).objects (L.state link.new)) }
         ensures cause { HasCause (L.faults link.old) (L.faults link.new) result }
-        ensures outside { L.outside link.new ≡ L.outside link.old }
-        ensures uploads { uploaded (L.state link.new).mine ≤ uploaded (L.state link.old).mine }
+        ensures at_back { ActsAtBack L.state L.told link.old link.new 0 false (is_err result) IsEnding }
     {
         for place in 0..8u8 {
             let index = SerialIndex::new(8 * self.group + place);
@@ -64,8 +62,7 @@ impl Core {
         ensures pending { (face self.new).pending ≡ (face self.old).pending }
         ensures group { (face self.new).group ≡ (face self.old).group }
         ensures faults { L.faults link.old ≤ L.faults link.new }
-        ensures outside { L.outside link.new ≡ L.outside link.old }
-        ensures uploads { uploaded (L.state link.new).mine ≤ uploaded (L.state link.old).mine }
+        ensures at_back { ActsAtBack L.state L.told link.old link.new 0 false false NoBatch }
     {
         while let Some(buffer) = self.buffers.first() {
             self.end(link, buffer);
@@ -78,11 +75,9 @@ impl Core {
         ensures rest { L.state link.new ≡ record (L.state link.old) { held = (L.state link.new).held } }
         ensures let_go { (o : Object) (x : Stored) → (face self).objects o ≡ Some x → (L.state link.new).held x.handle ≡ false }
         ensures faults { L.faults link.old ≤ L.faults link.new }
-        ensures outside { L.outside link.new ≡ L.outside link.old }
-        ensures uploads { uploaded (L.state link.new).mine ≤ uploaded (L.state link.old).mine }
+        ensures at_back { ActsAtBack L.state L.told link.old link.new 0 false false NoBatch }
     {
         abandon_comes_to();
-        uploads_come_to();
         let Core {
             alloc: _,
             group: _,

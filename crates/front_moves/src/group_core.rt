@@ -1,5 +1,5 @@
 // A share group's front without its history.
-ghost use Rattle.std.specs.Prelude.{◌≡◌, ℕ, ◌+◌, ◌*◌, ◌<◌, ◌≤◌, ◌==◌, ◌||◌, Bool, ◌++◌, [], length, OnOk, OnErr, IfOk, IfSome, is_some};
+ghost use Rattle.std.specs.Prelude.{◌≡◌, ℕ, ◌+◌, ◌*◌, ◌<◌, ◌≤◌, ◌==◌, ◌||◌, false, ◌++◌, [], ◌∷◌, length, OnOk, OnErr, IfOk, IfSome, IfNone, is_err};
 ghost use Rattle.vk_device.specs.Faults.{HasCause};
 ghost use Rattle.resource_use.specs.Uses.{number_of};
 ghost use Rattle.vk_model.specs.Log.{commands};
@@ -9,12 +9,12 @@ ghost use Rattle.back_core.specs.Needs.{IsOfGroup};
 ghost use Rattle.front_model.specs.Face.{Buffer, outline_at, view, nodes_touch};
 ghost use Rattle.front_model.specs.Stands.{Holds, Owns, Moved, IsQuiet, no_hands};
 ghost use Rattle.front_moves.specs.Core.{face, IsFlushed, OnlyFlushed, HasFlushedSome, IsApart, IsParted};
-ghost use Rattle.front_moves.specs.Uploads.{uploaded};
+ghost use Rattle.back_core.specs.Frame.{ActsAtBack};
+ghost use Rattle.front_moves.specs.Reasons.{IsFlushOf, IsTouching, IsCross, IsParting};
 
 use crate::buffers::Buffers;
 use crate::comes_to::{flush_comes_to, new_comes_to};
 use crate::pending::Pending;
-use crate::uploads_come_to::uploads_come_to;
 use back_core::BackLink;
 use queue_serials::Indexes;
 use std::alloc::Global;
@@ -108,11 +108,9 @@ impl Core {
         ensures log { OnOk result (log_of (L.state link.new).mine ≡ log_of (L.state link.old).mine ++ commands 0 ((face self.old).pending index)) }
         ensures err { OnErr result (Owns (face self.new).objects (L.state link.new)) }
         ensures cause { HasCause (L.faults link.old) (L.faults link.new) result }
-        ensures outside { L.outside link.new ≡ L.outside link.old }
-        ensures uploads { uploaded (L.state link.new).mine ≤ uploaded (L.state link.old).mine }
+        ensures at_back { ActsAtBack L.state L.told link.old link.new 0 false (is_err result) (IsFlushOf (face self.old) index reason) }
     {
         flush_comes_to();
-        uploads_come_to();
         let place = self.place(index);
         if self.pending.len(place) == 0 {
             return Ok(());
@@ -136,7 +134,8 @@ impl Core {
     /// Whether the nodes that are pending in a context touch a buffer, by the buffer's last uses.
     fn is_touched(&self, index: SerialIndex, buffer: u32) -> bool
         requires group { IsOfGroup (face self.now).group index }
-        ensures { (s : Link) → Holds (face self.now) no_hands s → IfSome ((face self.now).objects (Buffer buffer)) (λ x. nodes_touch ((face self.now).pending index) x.handle ≡ result) }
+        ensures some { (s : Link) → Holds (face self.now) no_hands s → IfSome ((face self.now).objects (Buffer buffer)) (λ x. nodes_touch ((face self.now).pending index) x.handle ≡ result) }
+        ensures none { IfNone ((face self.now).objects (Buffer buffer)) (result ≡ false) }
     {
         flush_comes_to();
         match self.buffers.get(buffer) {
@@ -159,8 +158,7 @@ impl Core {
         ensures group { (face self.new).group ≡ (face self.old).group }
         ensures err { OnErr result (Owns (face self.new).objects (L.state link.new)) }
         ensures cause { HasCause (L.faults link.old) (L.faults link.new) result }
-        ensures outside { L.outside link.new ≡ L.outside link.old }
-        ensures uploads { uploaded (L.state link.new).mine ≤ uploaded (L.state link.old).mine }
+        ensures at_back { ActsAtBack L.state L.told link.old link.new 0 false (is_err result) (IsTouching (face self.old) index buffer) }
     {
         if self.is_touched(index, buffer) {
             return self.flush(link, index, Reason::Cross);
@@ -181,8 +179,7 @@ impl Core {
         ensures group { (face self.new).group ≡ (face self.old).group }
         ensures err { OnErr result (Owns (face self.new).objects (L.state link.new)) }
         ensures cause { HasCause (L.faults link.old) (L.faults link.new) result }
-        ensures outside { L.outside link.new ≡ L.outside link.old }
-        ensures uploads { uploaded (L.state link.new).mine ≤ uploaded (L.state link.old).mine }
+        ensures at_back { ActsAtBack L.state L.told link.old link.new 0 false (is_err result) (IsCross (face self.old) index buffer) }
     {
         for place in 0..8u8 {
             let other = SerialIndex::new(8 * self.group + place);
@@ -212,8 +209,7 @@ impl Core {
         ensures group { (face self.new).group ≡ (face self.old).group }
         ensures err { OnErr result (Owns (face self.new).objects (L.state link.new)) }
         ensures cause { HasCause (L.faults link.old) (L.faults link.new) result }
-        ensures outside { L.outside link.new ≡ L.outside link.old }
-        ensures uploads { uploaded (L.state link.new).mine ≤ uploaded (L.state link.old).mine }
+        ensures at_back { ActsAtBack L.state L.told link.old link.new 0 false (is_err result) (IsParting (face self.old) index (buffer ∷ [])) }
     {
         match self.part_others(link, index, buffer) {
             Ok(()) => {}

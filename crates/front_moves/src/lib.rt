@@ -15,6 +15,5 @@ mod recording;
 mod recording_comes_to;
 mod stores;
 mod stores_come_to;
-mod uploads_come_to;
 
 pub use group_core::Core;

@@ -1,5 +1,5 @@
 // The moves on the buffers of a share group.
-ghost use Rattle.std.specs.Prelude.{◌≡◌, ◌≢◌, ℕ, ◌+◌, ◌<◌, ◌≤◌, ◌⊎◌, Some, None, IsSome, length, OnOk, OnErr};
+ghost use Rattle.std.specs.Prelude.{◌≡◌, ◌≢◌, ℕ, ◌+◌, ◌<◌, ◌≤◌, ◌⊎◌, true, false, Some, None, IsSome, [], ◌∷◌, length, OnOk, OnErr, is_err};
 ghost use Rattle.cells.specs.Contents.{cells, Agrees};
 ghost use Rattle.tables.specs.Table.{entry};
 ghost use Rattle.vk_device.specs.Faults.{HasCause};
@@ -9,12 +9,12 @@ ghost use Rattle.front_model.specs.Face.{Buffer, put_object, outline_at, view};
 ghost use Rattle.front_model.specs.Stands.{Holds, Owns, Moved, IsQuiet, no_hands};
 ghost use Rattle.front_model.specs.Wanted.{with_bytes, with_copy};
 ghost use Rattle.front_moves.specs.Core.{face, HasStore, IsQuietBut, outline_of_size, new_cells};
-ghost use Rattle.front_moves.specs.Uploads.{uploaded};
+ghost use Rattle.back_core.specs.Frame.{ActsAtBack, NoBatch};
+ghost use Rattle.front_moves.specs.Reasons.{IsParting, IsSettling};
 
 use crate::group_core::Core;
 use crate::reading_comes_to::{host_comes_to, settle_comes_to};
 use crate::stores_come_to::end_comes_to;
-use crate::uploads_come_to::uploads_come_to;
 use back_core::BackLink;
 use vk_types::{QueueSerial, Reason, SerialIndex, Stop};
 
@@ -38,8 +38,7 @@ impl Core {
         ensures group { (face self.new).group ≡ (face self.old).group }
         ensures err { OnErr result (Owns (face self.new).objects (L.state link.new)) }
         ensures cause { HasCause (L.faults link.old) (L.faults link.new) result }
-        ensures outside { L.outside link.new ≡ L.outside link.old }
-        ensures uploads { uploaded (L.state link.new).mine ≤ uploaded (L.state link.old).mine + length bytes.now }
+        ensures at_back { ActsAtBack L.state L.told link.old link.new (length bytes.now) false (is_err result) (IsParting (face self.old) index (buffer ∷ [])) }
     {
         match self.prepare(link, index, buffer) {
             Ok(()) => {
@@ -85,8 +84,7 @@ impl Core {
         ensures group { (face self.new).group ≡ (face self.old).group }
         ensures err { OnErr result (Owns (face self.new).objects (L.state link.new)) }
         ensures cause { HasCause (L.faults link.old) (L.faults link.new) result }
-        ensures outside { L.outside link.new ≡ L.outside link.old }
-        ensures uploads { uploaded (L.state link.new).mine ≤ uploaded (L.state link.old).mine }
+        ensures at_back { ActsAtBack L.state L.told link.old link.new 0 false (is_err result) (IsParting (face self.old) index (src ∷ dst ∷ [])) }
     {
         match self.prepare(link, index, src) {
             Ok(()) => match self.prepare(link, index, dst) {
@@ -115,8 +113,7 @@ impl Core {
         ensures group { (face self.new).group ≡ (face self.old).group }
         ensures err { OnErr result (Owns (face self.new).objects (L.state link.new)) }
         ensures cause { HasCause (L.faults link.old) (L.faults link.new) result }
-        ensures outside { L.outside link.new ≡ L.outside link.old }
-        ensures uploads { uploaded (L.state link.new).mine ≤ uploaded (L.state link.old).mine + length bytes.now }
+        ensures at_back { ActsAtBack L.state L.told link.old link.new (length bytes.now) false (is_err result) NoBatch }
     {
         self.end(link, buffer);
         if bytes.is_empty() {
@@ -143,8 +140,7 @@ impl Core {
         ensures group { (face self.new).group ≡ (face self.old).group }
         ensures err { OnErr result (Owns (face self.new).objects (L.state link.new)) }
         ensures cause { HasCause (L.faults link.old) (L.faults link.new) result }
-        ensures outside { L.outside link.new ≡ L.outside link.old }
-        ensures uploads { uploaded (L.state link.new).mine ≤ uploaded (L.state link.old).mine }
+        ensures at_back { ActsAtBack L.state L.told link.old link.new 0 false (is_err result) NoBatch }
     {
         self.end(link, buffer);
         if size == 0 {
@@ -166,11 +162,9 @@ impl Core {
         ensures fewer { IsSome (entry buffer self.old.buffers) → length self.new.buffers < length self.old.buffers }
         ensures group { (face self.new).group ≡ (face self.old).group }
         ensures faults { L.faults link.old ≤ L.faults link.new }
-        ensures outside { L.outside link.new ≡ L.outside link.old }
-        ensures uploads { uploaded (L.state link.new).mine ≤ uploaded (L.state link.old).mine }
+        ensures at_back { ActsAtBack L.state L.told link.old link.new 0 false false NoBatch }
     {
         end_comes_to();
-        uploads_come_to();
         if let Some(store) = self.buffers.take(buffer) {
             link.give(store.into_garbage());
         }
@@ -192,8 +186,7 @@ impl Core {
         ensures group { (face self.new).group ≡ (face self.old).group }
         ensures err { OnErr result (Owns (face self.new).objects (L.state link.new)) }
         ensures cause { HasCause (L.faults link.old) (L.faults link.new) result }
-        ensures outside { L.outside link.new ≡ L.outside link.old }
-        ensures uploads { uploaded (L.state link.new).mine ≤ uploaded (L.state link.old).mine }
+        ensures at_back { ActsAtBack L.state L.told link.old link.new 0 true (is_err result) (IsSettling (face self.old) index buffer) }
     {
         settle_comes_to();
         match self.prepare(link, index, buffer) {
@@ -228,11 +221,9 @@ impl Core {
         ensures fetched { OnOk result ((id : ℕ) × (L.state link.new ≡ fetched (L.state link.old) id at out.new)) }
         ensures err { OnErr result (Owns (face self.now).objects (L.state link.new)) }
         ensures cause { HasCause (L.faults link.old) (L.faults link.new) result }
-        ensures outside { L.outside link.new ≡ L.outside link.old }
-        ensures uploads { uploaded (L.state link.new).mine ≤ uploaded (L.state link.old).mine }
+        ensures at_back { ActsAtBack L.state L.told link.old link.new 0 false (is_err result) NoBatch }
     {
         host_comes_to();
-        uploads_come_to();
         match self.buffers.get(buffer) {
             Some(store) => link.read_host(store.id(), at, out),
             None => Ok(()),
@@ -256,11 +247,9 @@ impl Core {
             (outline_at (face self.now)) (IsQuiet (face self.now) (L.state link.old))) }
         ensures err { OnErr result (Owns (face self.now).objects (L.state link.new)) }
         ensures cause { HasCause (L.faults link.old) (L.faults link.new) result }
-        ensures outside { L.outside link.new ≡ L.outside link.old }
-        ensures uploads { uploaded (L.state link.new).mine ≤ uploaded (L.state link.old).mine + length bytes.now }
+        ensures at_back { ActsAtBack L.state L.told link.old link.new (length bytes.now) false (is_err result) NoBatch }
     {
         host_comes_to();
-        uploads_come_to();
         match self.buffers.get(buffer) {
             Some(store) => {
                 // the size is a number of 64 bits, so the range does not go past the last place

@@ -1,5 +1,5 @@
 // How nodes on buffers are recorded, each behind full barriers of all that it touches.
-ghost use Rattle.std.specs.Prelude.{◌≡◌, ℕ, ◌+◌, ◌<◌, ◌≤◌, ◌==◌, ◌⊎◌, if◌then◌else◌, ◌++◌, ◌≢◌, [], ◌∷◌, length, OnOk, OnErr, IfErr, Err, IfSome, IfNone, IsSome, slice_set, slice_index_or};
+ghost use Rattle.std.specs.Prelude.{◌≡◌, ℕ, ◌+◌, ◌<◌, ◌≤◌, ◌==◌, ◌⊎◌, if◌then◌else◌, ◌++◌, ◌≢◌, [], ◌∷◌, length, OnOk, OnErr, IfErr, Err, IfSome, IfNone, IsSome, slice_set, slice_index_or, true, false, is_err};
 ghost use Rattle.vk_device.specs.Faults.{HasCause};
 ghost use Rattle.vk_types.specs.declared.ops.Op.TheVariants as op;
 ghost use Rattle.vk_types.specs.Touches.{the_end};
@@ -11,7 +11,7 @@ ghost use Rattle.front_model.specs.Stands.{Holds, Owns, Moved, IsQuiet, no_hands
 ghost use Rattle.front_model.specs.Steps.{full_barrier, fenced};
 ghost use Rattle.front_model.specs.Wanted.{with_copy};
 ghost use Rattle.front_moves.specs.Core.{face, in_hand, HasStore, IsParted, IsQuietBut, IsUntouched, IsRetired, EndsWithBarrier};
-ghost use Rattle.front_moves.specs.Uploads.{uploaded};
+ghost use Rattle.back_core.specs.Frame.{ActsAtBack, NoBatch};
 
 use crate::group_core::Core;
 use crate::pending::Pending;
@@ -19,7 +19,6 @@ use crate::reading_comes_to::waiting_comes_to;
 use crate::recording_comes_to::{
     barrier_comes_to, copy_comes_to, stopped_recording_comes_to, upload_comes_to,
 };
-use crate::uploads_come_to::uploads_come_to;
 use back_core::BackLink;
 use garbage::Garbage;
 use vk_types::{Access, Barrier, HandleId, Node, Op, QueueSerial, SerialIndex, Stop};
@@ -97,12 +96,10 @@ impl Core {
         ensures group { (face self.new).group ≡ (face self.old).group }
         ensures err { OnErr result (Owns (face self.new).objects (L.state link.new)) }
         ensures cause { HasCause (L.faults link.old) (L.faults link.new) result }
-        ensures outside { L.outside link.new ≡ L.outside link.old }
-        ensures uploads { uploaded (L.state link.new).mine ≤ uploaded (L.state link.old).mine }
+        ensures at_back { ActsAtBack L.state L.told link.old link.new 0 false (is_err result) NoBatch }
     {
         upload_comes_to();
         stopped_recording_comes_to();
-        uploads_come_to();
         let place = self.place(serial.index);
         let src = staging.handle.id();
         let dst = self.id_of(buffer);
@@ -218,11 +215,9 @@ impl Core {
         ensures same { OnOk result ((L.state link.new).mine ≡ (L.state link.old).mine) }
         ensures err { OnErr result (Owns (face self.now).objects (L.state link.new)) }
         ensures cause { HasCause (L.faults link.old) (L.faults link.new) result }
-        ensures outside { L.outside link.new ≡ L.outside link.old }
-        ensures uploads { uploaded (L.state link.new).mine ≤ uploaded (L.state link.old).mine }
+        ensures at_back { ActsAtBack L.state L.told link.old link.new 0 true (is_err result) NoBatch }
     {
         waiting_comes_to();
-        uploads_come_to();
         for place in 0..8u8 {
             let index = SerialIndex::new(8 * self.group + place);
             let number = self.last_use(index, buffer);

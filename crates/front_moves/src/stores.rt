@@ -1,15 +1,14 @@
 // How stores are made and put into buffers.
-ghost use Rattle.std.specs.Prelude.{◌≡◌, ℕ, ◌+◌, ◌==◌, ◌<◌, ◌≤◌, if◌then◌else◌, Some, None, length, OnOk, OnErr, IfOk};
+ghost use Rattle.std.specs.Prelude.{◌≡◌, ℕ, ◌+◌, ◌==◌, ◌<◌, ◌≤◌, if◌then◌else◌, false, Some, None, length, OnOk, OnErr, IfOk, is_err};
 ghost use Rattle.vk_device.specs.Faults.{HasCause};
 ghost use Rattle.resource_use.specs.Uses.{number_of};
 ghost use Rattle.front_model.specs.Face.{Buffer, put_object, outline_at, view, recorded};
 ghost use Rattle.front_model.specs.Stands.{Holds, Owns, Moved, no_hands};
 ghost use Rattle.front_moves.specs.Core.{face, in_hand, HasFresh, IsQuietBut, outline_of_size};
-ghost use Rattle.front_moves.specs.Uploads.{uploaded};
+ghost use Rattle.back_core.specs.Frame.{ActsAtBack, NoBatch};
 
 use crate::group_core::Core;
 use crate::stores_come_to::{begin_comes_to, blank_comes_to, filled_comes_to};
-use crate::uploads_come_to::uploads_come_to;
 use back_core::BackLink;
 use buffer_helper::BufferHelper;
 use garbage::Garbage;
@@ -24,11 +23,9 @@ impl Core {
         ensures ok { IfOk result (λ id. HasFresh (face self.now) (L.state link.old) (L.state link.new) id.0 size None) }
         ensures err { OnErr result (Owns (face self.now).objects (L.state link.new)) }
         ensures cause { HasCause (L.faults link.old) (L.faults link.new) result }
-        ensures outside { L.outside link.new ≡ L.outside link.old }
-        ensures uploads { uploaded (L.state link.new).mine ≤ uploaded (L.state link.old).mine }
+        ensures at_back { ActsAtBack L.state L.told link.old link.new 0 false (is_err result) NoBatch }
     {
         blank_comes_to();
-        uploads_come_to();
         link.create(Kind::Buffer { size })
     }
 
@@ -39,11 +36,9 @@ impl Core {
         ensures ok { IfOk result (λ id. HasFresh (face self.now) (L.state link.old) (L.state link.new) id.0 (length bytes.now) (Some bytes.now)) }
         ensures err { OnErr result (Owns (face self.now).objects (L.state link.new)) }
         ensures cause { HasCause (L.faults link.old) (L.faults link.new) result }
-        ensures outside { L.outside link.new ≡ L.outside link.old }
-        ensures uploads { uploaded (L.state link.new).mine ≤ uploaded (L.state link.old).mine + length bytes.now }
+        ensures at_back { ActsAtBack L.state L.told link.old link.new (length bytes.now) false (is_err result) NoBatch }
     {
         filled_comes_to();
-        uploads_come_to();
         match self.blank(link, bytes.len() as u64) {
             Ok(handle) => match link.write_host(handle.id(), 0, bytes) {
                 Ok(()) => Ok(handle),
@@ -69,8 +64,7 @@ impl Core {
         ensures uses { IfOk result (λ g. (i : ℕ) → number_of g.uses i ≡ (if i == serial.index then serial.number else 0)) }
         ensures err { OnErr result (Owns (face self.now).objects (L.state link.new)) }
         ensures cause { HasCause (L.faults link.old) (L.faults link.new) result }
-        ensures outside { L.outside link.new ≡ L.outside link.old }
-        ensures uploads { uploaded (L.state link.new).mine ≤ uploaded (L.state link.old).mine + length bytes.now }
+        ensures at_back { ActsAtBack L.state L.told link.old link.new (length bytes.now) false (is_err result) NoBatch }
     {
         filled_comes_to();
         let mut uses = ResourceUse::new(self.alloc);
@@ -101,12 +95,10 @@ impl Core {
         ensures group { (face self.new).group ≡ (face self.old).group }
         ensures err { OnErr result (Owns (face self.new).objects (L.state link.new)) }
         ensures cause { HasCause (L.faults link.old) (L.faults link.new) result }
-        ensures outside { L.outside link.new ≡ L.outside link.old }
-        ensures uploads { uploaded (L.state link.new).mine ≤ uploaded (L.state link.old).mine }
+        ensures at_back { ActsAtBack L.state L.told link.old link.new 0 false (is_err result) NoBatch }
     {
         begin_comes_to();
         filled_comes_to();
-        uploads_come_to();
         match self
             .buffers
             .insert(buffer, BufferHelper::new(self.alloc, fresh, size))

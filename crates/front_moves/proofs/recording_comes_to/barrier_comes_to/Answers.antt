@@ -1,13 +1,14 @@
-use Rattle.std.proofs.Common.{◌≡◌, ℕ, ◌+◌, ◌==◌, false, [], ◌∷◌, ◌++◌, sym, ◌∙◌, ap, subst, inr}
-use Rattle.std.specs.Prelude.{IfSome, IsSome}
+use Rattle.std.proofs.Common.{◌≡◌, ℕ, ◌+◌, ◌==◌, false, [], ◌∷◌, ◌++◌, refl, sym, ◌∙◌, ap, subst, inr}
+use Rattle.std.specs.Prelude.{Some, None, IfSome}
 use Rattle.vk_types.specs.declared.handles.HandleId.{HandleId}
 use Rattle.vk_types.specs.declared.handles.Kind.TheVariants as kind
 use Rattle.vk_types.specs.declared.batches.QueueSerial.{QueueSerial}
+use Rattle.vk_model.specs.Fitting.{LayoutsFit, NodeFits}
 use Rattle.back_core.specs.Link.{Link, kinds_of}
 use Rattle.front_model.specs.Face.{Buffer, Stored, Face, outline_at, view, nodes_touch}
 use Rattle.front_model.specs.Stands.{Holds, IsQuiet, no_hands}
 use Rattle.front_model.specs.Steps.{MayRecord, noted_store, with_nodes, full_barrier}
-use Rattle.front_model.proofs.Base.{put-same, put-other, map_is, is_some_of}
+use Rattle.front_model.proofs.Base.{put-same, put-other, map_is}
 use Rattle.front_moves.specs.Buffers.{stored_of}
 use Rattle.front_moves.specs.Core.{CoreParts, face, IsParted, EndsWithBarrier}
 use Rattle.front_moves.specs.Recording.{IsNextSerial, HasBuffer, IsRecorded}
@@ -47,10 +48,11 @@ returns l = record {
       let distinct : Distinct c = λ o q x y. l.steps_may.ensures.distinct f no_hands s o q x y h in
       let of : IsStore c b id len = store_of c serial.index b id len has in
       let at = store_at c b of.store of.is in
-      let live : IsSome (s.kinds id.0) = is_some_of (s.kinds id.0) (kind.Buffer of.store.size) (ap s.kinds (sym of.handle) ∙ l.steps_may.ensures.kinds f no_hands s (Buffer b) (stored_of of.store) h at) in
+      let kind_is : s.kinds id.0 ≡ Some (kind.Buffer of.store.size) = ap s.kinds (sym of.handle) ∙ l.steps_may.ensures.kinds f no_hands s (Buffer b) (stored_of of.store) h at in
+      let fits : NodeFits s.kinds (full_barrier id) = subst (λ k. LayoutsFit k None) (sym kind_is) refl in
       let may : MayRecord f no_hands s serial.index nodes =
       barrier_may f no_hands s serial.index id next.group next.few
-      (l.fenced_nodes_stay_sound.ensures.barrier _ id h.sound (l.fenced_nodes_stay_sound.ensures.one_queue f s) h.barriers) live
+      (l.fenced_nodes_stay_sound.ensures.barrier _ id h.sound (l.fenced_nodes_stay_sound.ensures.one_queue f s) (l.fenced_nodes_stay_sound.ensures.full _ h.recordable)) fits
       (inr (Buffer b, stored_of of.store, at, of.handle))
       (λ i ne. subst (λ j. nodes_touch (f.pending i) j ≡ false) of.handle (has.parted i (stored_of of.store) ne at)) in
       let same : face d ≡ with_nodes f serial.index nodes = after c d s place b len serial id h distinct next of recorded in

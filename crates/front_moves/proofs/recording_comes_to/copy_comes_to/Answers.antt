@@ -31,7 +31,7 @@ returns l = record {
       let free_b : IsFree f no_hands s serial.index to dst_at size = buffer_free c no_hands s serial.index dst to dst_len dst_at size h at_dst b some dst_in in
       let may : MayRecord f no_hands s serial.index nodes =
       copy_may f no_hands s serial.index from src_at to dst_at size next.group next.few
-      (l.fenced_nodes_stay_sound.ensures.node _ (copy_node from src_at to dst_at size) h.sound (l.fenced_nodes_stay_sound.ensures.one_queue f s) h.barriers (copy_no_layout from src_at to dst_at size) refl)
+      (l.fenced_nodes_stay_sound.ensures.node _ (copy_node from src_at to dst_at size) h.sound (l.fenced_nodes_stay_sound.ensures.one_queue f s) (l.fenced_nodes_stay_sound.ensures.full _ h.recordable) (copy_no_layout from src_at to dst_at size) refl)
       some free_a free_b (λ e. apart (one_store c src dst from to src_len dst_len distinct a b e)) in
       let touch : (k : ℕ) (x : BufferStore) → entry k c.buffers ≡ Some x → nodes_touch nodes x.handle.0 ≡ ((k == src) || (k == dst)) =
       λ k x is. copy_touches from src_at to dst_at size x.handle.0

@@ -27,7 +27,7 @@ returns l =
     let slot = fresh_slot (kind.Buffer len) in
     let of : IsStore c b to size = store_of c serial.index b to size has in
     copy_may f hands s serial.index src 0 to at len next.group next.few
-    (l.fenced_nodes_stay_sound.ensures.node _ (copy_node src 0 to at len) h.sound (l.fenced_nodes_stay_sound.ensures.one_queue f s) h.barriers (copy_no_layout src 0 to at len) refl)
+    (l.fenced_nodes_stay_sound.ensures.node _ (copy_node src 0 to at len) h.sound (l.fenced_nodes_stay_sound.ensures.one_queue f s) (l.fenced_nodes_stay_sound.ensures.full _ h.recordable) (copy_no_layout src 0 to at len) refl)
     some
     (hand_free f s serial.index src len (l.steps_may.ensures.hands f hands s src.0 slot h (hand_at src.0 len))
     (λ i. l.steps_may.ensures.untouched f hands s src.0 i (kind.Buffer len) h (hand_at src.0 len)) some end)

@@ -1,11 +1,11 @@
-use Rattle.std.proofs.Common.{◌≡◌, ap, sym, subst, ◌∙◌, refl, arith, ◌≤◌}
+use Rattle.std.proofs.Common.{◌≡◌, ap, sym, subst, ◌∙◌, arith}
 use Rattle.tables.specs.Table.{Entries}
 use Rattle.buffer_helper.specs.Buffers.{BufferStore}
 use Rattle.back_core.specs.Link.{Link, abandoned}
 use Rattle.front_moves.specs.Buffers.{TakesOne}
 use Rattle.front_moves.specs.Core.{CoreParts}
 use Rattle.front_moves.specs.Ending.{HasLetGo}
-use Rattle.front_moves.specs.Uploads.{uploaded}
+use Rattle.front_moves.proofs.AtBack.{did_nothing, handless_then}
 use Rattle.front_moves.proofs.group_core.Core.abandon.Goals as goal
 
 pub loop-store-init : goal.loop-store-init
@@ -14,8 +14,7 @@ loop-store-init g c =
     record {
       let_go = subst (λ (p : CoreParts). HasLetGo c.args.self.buffers p.buffers s s) (sym c.self.view_is) (c.abandon_comes_to.ensures.begins c.args.self.buffers s c.requires.owns);
       faults = omega arith;
-      outside = refl;
-      uploads = omega arith;
+      at_back = did_nothing (g.L.BackLink.state c.args.link.now) (g.L.BackLink.told c.args.link.now);
     }
 
 pub loop-store-preserved : goal.loop-store-preserved
@@ -28,12 +27,7 @@ loop-store-preserved g c =
       let_go = subst (HasLetGo c.args.self.buffers c.take_first.new.self s) (sym state)
           (c.abandon_comes_to.ensures.goes_on c.args.self.buffers c.loop-store.buffers c.take_first.new.self s t c.in-Some.field-0-0 c.in-Some.store c.requires.owns c.loop-store.invariant.let_go takes);
       faults = let low = c.loop-store.invariant.faults in let later = c.abandon.ensures.faults in omega (arith, low, later);
-      outside = c.abandon.ensures.outside ∙ c.loop-store.invariant.outside;
-      uploads =
-          let low : uploaded t.mine ≤ uploaded s.mine = c.loop-store.invariant.uploads in
-          let u : Link = g.L.BackLink.state c.abandon.new.self in
-          let same : uploaded u.mine ≡ uploaded t.mine = c.uploads_come_to.ensures.lets_go t u c.in-Some.store.handle.0 state in
-          omega arith;
+      at_back = handless_then (omega arith) c.loop-store.invariant.at_back c.abandon.ensures.at_back;
     }
 
 pub returns-clause-let_go : goal.returns-clause-let_go

@@ -1,10 +1,9 @@
-use Rattle.std.proofs.Common.{◌≡◌, ap, ◌∙◌, [], arith}
+use Rattle.std.proofs.Common.{◌≡◌, ap, ◌∙◌, []}
 use Rattle.tables.specs.Table.{with_entry}
 use Rattle.buffer_helper.specs.Buffers.{BufferStore}
 use Rattle.front_moves.specs.Core.{CoreParts, face}
+use Rattle.front_moves.proofs.AtBack.{did_nothing, might_stop}
 use Rattle.front_moves.proofs.BufferLaws.{buffers_changed}
-use Rattle.back_core.specs.Link.{Link}
-use Rattle.front_moves.specs.Uploads.{uploaded}
 use Rattle.front_moves.proofs.group_core.Core.begin.Goals.{in-Ok, in-Err}
 use Rattle.front_moves.proofs.group_core.Core.begin.Goals as goal
 
@@ -34,12 +33,8 @@ returns-clause-err g c = elim c.match-insert.branch [
       (c.filled_comes_to.ensures.let_go (face c.args.self.now) (g.L.BackLink.state c.args.link.now) c.args.fresh.0 c.args.size c.requires.holds)
 ]
 
-pub returns-clause-uploads : goal.returns-clause-uploads
-returns-clause-uploads g c = elim c.match-insert.branch [
-  | in-Ok w ↦ rw w.link-is (omega arith)
-  | in-Err w ↦
-      let s : Link = g.L.BackLink.state c.args.link.now in
-      let t : Link = g.L.BackLink.state w.abandon.new.self in
-      let same : uploaded t.mine ≡ uploaded s.mine = c.uploads_come_to.ensures.lets_go s t w.into_garbage-handle.result.handle.0 w.abandon.ensures.state in
-      rw w.link-is (omega arith)
+pub returns-clause-at_back : goal.returns-clause-at_back
+returns-clause-at_back g c = elim c.match-insert.branch [
+  | in-Ok w ↦ rw (w.result-is, w.link-is) (did_nothing (g.L.BackLink.state c.args.link.now) (g.L.BackLink.told c.args.link.now))
+  | in-Err w ↦ rw (w.result-is, w.link-is) (might_stop w.abandon.ensures.at_back)
 ]

@@ -1,6 +1,8 @@
-use Rattle.std.proofs.Common.{sym, subst}
+use Rattle.std.proofs.Common.{sym, subst, arith}
 use Rattle.std.proofs.lemmas.Result.{on_ok_weaker}
 use Rattle.front_moves.specs.Core.{face, IsParted}
+use Rattle.front_moves.proofs.AtBack.{did_for, might_stop, good_then}
+use Rattle.front_moves.proofs.Handing.{first_parts, second_parts}
 use Rattle.front_moves.proofs.MovesInTurn.{same_then, store_kept, parted_kept, copy_then}
 use Rattle.front_moves.proofs.group_core.Core.copy.Goals as goal
 
@@ -36,3 +38,16 @@ returns-in-Ok-prepare-clause-moved g c =
     c.args.src c.args.src_at c.args.dst c.args.dst_at c.args.size
     (same_then (face c.args.self.now) (face c.prepare.new.self) (face c.prepare-in-Ok.new.self) (g.L.BackLink.state c.args.link.now) (g.L.BackLink.state c.prepare.new.link) (g.L.BackLink.state c.prepare-in-Ok.new.link) c.in-Ok.ensures.moved c.in-Ok-prepare.ensures.moved))
     c.record_copy.ensures.moved
+
+pub returns-in-Ok-prepare-clause-at_back : goal.returns-in-Ok-prepare-clause-at_back
+returns-in-Ok-prepare-clause-at_back g c =
+    might_stop (good_then (omega arith) (first_parts (face c.args.self.now) c.args.index c.args.src c.args.dst)
+    (second_parts (face c.args.self.now) (face c.prepare.new.self) c.args.index c.args.src c.args.dst c.in-Ok.ensures.flushed.objects) c.in-Ok.ensures.at_back c.in-Ok-prepare.ensures.at_back)
+
+pub returns-in-Err-prepare-clause-at_back : goal.returns-in-Err-prepare-clause-at_back
+returns-in-Err-prepare-clause-at_back g c =
+    good_then (omega arith) (first_parts (face c.args.self.now) c.args.index c.args.src c.args.dst)
+    (second_parts (face c.args.self.now) (face c.prepare.new.self) c.args.index c.args.src c.args.dst c.in-Ok.ensures.flushed.objects) c.in-Ok.ensures.at_back c.in-Err-prepare.ensures.at_back
+
+pub returns-in-Err-clause-at_back : goal.returns-in-Err-clause-at_back
+returns-in-Err-clause-at_back g c = did_for (omega arith) (first_parts (face c.args.self.now) c.args.index c.args.src c.args.dst) c.in-Err.ensures.at_back

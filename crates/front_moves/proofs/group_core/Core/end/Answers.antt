@@ -1,10 +1,9 @@
-use Rattle.std.proofs.Common.{◌≡◌, ap, ◌∙◌, sym, refl, ℕ, ◌==◌, None, arith}
+use Rattle.std.proofs.Common.{◌≡◌, ap, ◌∙◌, sym, refl, ℕ, ◌==◌, None}
 use Rattle.std.specs.Prelude.{if◌then◌else◌}
 use Rattle.tables.specs.Table.{entry}
 use Rattle.front_moves.specs.Core.{CoreParts}
+use Rattle.front_moves.proofs.AtBack.{did_nothing}
 use Rattle.front_moves.proofs.BufferLaws.{buffers_changed}
-use Rattle.back_core.specs.Link.{Link}
-use Rattle.front_moves.specs.Uploads.{uploaded}
 use Rattle.front_moves.proofs.group_core.Core.end.Goals.{in-Some, in_default}
 use Rattle.front_moves.proofs.group_core.Core.end.Goals as goal
 
@@ -35,12 +34,8 @@ returns-clause-moved g c =
           (sym (has_entry c.args.self.now _ c.args.buffer c.self.view_is) ∙ sym c.take.ensures.taken ∙ w.in_default.is) is each)
     ]
 
-pub returns-clause-uploads : goal.returns-clause-uploads
-returns-clause-uploads g c = elim c.match-take.branch [
-  | in-Some w ↦
-      let s : Link = g.L.BackLink.state c.args.link.now in
-      let t : Link = g.L.BackLink.state w.give.new.self in
-      let same : uploaded t.mine ≡ uploaded s.mine = c.uploads_come_to.ensures.gives s t w.into_garbage.result.handle.0 w.into_garbage.result.uses w.give.ensures.state in
-      rw w.link-is (omega arith)
-  | in_default w ↦ rw w.link-is (omega arith)
+pub returns-clause-at_back : goal.returns-clause-at_back
+returns-clause-at_back g c = elim c.match-take.branch [
+  | in-Some w ↦ rw w.link-is w.give.ensures.at_back
+  | in_default w ↦ rw w.link-is (did_nothing (g.L.BackLink.state c.args.link.now) (g.L.BackLink.told c.args.link.now))
 ]

@@ -1,7 +1,7 @@
-use Rattle.std.proofs.Common.{◌≡◌, ◌≤◌, length}
+use Rattle.std.proofs.Common.{◌≡◌, ◌≤◌, false, length}
+use Rattle.back_core.specs.Frame.{AtBack, NoBatch}
 use Rattle.front_model.specs.Stands.{Holds, no_hands}
 use Rattle.front_moves.specs.Core.{face}
-use Rattle.front_moves.specs.Uploads.{uploaded}
 use Rattle.front_moves.proofs.group_core.Core.end_each.Given as goal
 
 abbrev pub invariant-loop-buffer : goal.invariant-loop-buffer
@@ -10,8 +10,7 @@ invariant-loop-buffer g l = record {
   pending : (face l.self).pending ≡ (face l.fn.self).pending;
   group : (face l.self).group ≡ (face l.fn.self).group;
   faults : g.L.BackLink.faults l.fn.link ≤ g.L.BackLink.faults l.link;
-  outside : g.L.BackLink.outside l.link ≡ g.L.BackLink.outside l.fn.link;
-  uploads : uploaded (g.L.BackLink.state l.link).mine ≤ uploaded (g.L.BackLink.state l.fn.link).mine;
+  at_back : AtBack (g.L.BackLink.state l.fn.link) (g.L.BackLink.state l.link) (g.L.BackLink.told l.fn.link) (g.L.BackLink.told l.link) 0 false false NoBatch;
 }
 
 abbrev pub decreases-loop-buffer : goal.decreases-loop-buffer

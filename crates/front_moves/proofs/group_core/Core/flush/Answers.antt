@@ -1,4 +1,4 @@
-use Rattle.std.proofs.Common.{ap, ◌≡◌, subst, ◌∙◌, refl, []}
+use Rattle.std.proofs.Common.{ap, sym, ◌≡◌, subst, ◌∙◌, refl, [], arith}
 use Rattle.std.specs.Prelude.{slice_set}
 use Rattle.vk_types.specs.declared.batches.Batch.{Batch}
 use Rattle.queue_serials.specs.Indexes.{with_last}
@@ -6,8 +6,8 @@ use Rattle.back_core.specs.Link.{Link}
 use Rattle.front_model.specs.Steps.{IsNextBatch}
 use Rattle.front_moves.specs.Core.{CoreParts, face, HasFlushed}
 use Rattle.front_moves.proofs.Flushing.{IsAtPlace, same_place, next_batch}
-use Rattle.front_moves.proofs.Uploaded.{not_more}
-use Rattle.front_moves.specs.Uploads.{uploaded}
+use Rattle.front_moves.specs.Reasons.{IsFlushOf}
+use Rattle.front_moves.proofs.AtBack.{did_nothing, did_for, might_stop}
 use Rattle.front_moves.proofs.group_core.Core.flush.Goals as goal
 use Rattle.front_moves.proofs.group_core.Core.flush.Goals.{in-Ok, in-Err}
 
@@ -35,11 +35,14 @@ returns g c =
     let left : c.take.new.self ≡ slice_set k.pending c.place-place.result [] = c.take.ensures.left in
     let core : d ≡ record k { indexes = with_last k.indexes c.args.index c.next-number.result; pending = slice_set k.pending c.place-place.result [] } = cc in
     let group : (face d).group ≡ (face c.args.self.now).group = ap (λ (x : CoreParts). x.indexes.group) core ∙ ap (λ (x : CoreParts). x.indexes.group) c.self.view_is in
+    let flush_of : IsFlushOf (face c.args.self.now) c.args.index c.args.reason batch =
+    record { of_index = refl; all = next_.all ∙ ap (λ (x : CoreParts). (face x).pending c.args.index) c.self.view_is; for_reason = refl } in
+    let why : (b : Batch) → b ≡ batch → IsFlushOf (face c.args.self.now) c.args.index c.args.reason b = λ b is. subst (IsFlushOf (face c.args.self.now) c.args.index c.args.reason) (sym is) flush_of in
     elim c.match-enqueue.branch [
       | in-Ok w ↦
           let h : HasFlushed (face c.args.self.now) (face d) s t c.args.index = subst (λ x. HasFlushed (face x) (face d) s t c.args.index) c.self.view_is
           (c.flush_comes_to.ensures.batch k d s t c.args.index c.place-place.result batch here.holds here.own here.at next_ w.in-Ok.ensures.room c.next-number.ensures.last core w.in-Ok.ensures.ok) in
-          rw w.result-is (record { moved = h.moved; flushed = h.flushed; group = group; log = h.log; err = tt; cause = record { later = c.enqueue.ensures.faults; lost = λ e. absurd cc }; outside = c.enqueue.ensures.outside; uploads = not_more (uploaded t.mine) (uploaded s.mine) (c.uploads_come_to.ensures.enqueues s t batch w.in-Ok.ensures.ok) })
+          rw w.result-is (record { moved = h.moved; flushed = h.flushed; group = group; log = h.log; err = tt; cause = record { later = c.enqueue.ensures.faults; lost = λ e. absurd cc }; at_back = did_for (omega arith) why c.enqueue.ensures.at_back })
       | in-Err w ↦ rw w.result-is (record {
         moved = tt;
         flushed = tt;
@@ -47,8 +50,7 @@ returns g c =
         log = tt;
         err = rw w.in-Err.ensures.err (c.flush_comes_to.ensures.owns k s here.holds);
         cause = record { later = c.enqueue.ensures.faults; lost = λ e. absurd cc };
-        outside = c.enqueue.ensures.outside;
-        uploads = not_more (uploaded t.mine) (uploaded s.mine) (c.uploads_come_to.ensures.stays s t w.in-Err.ensures.err);
+        at_back = might_stop (did_for (omega arith) why c.enqueue.ensures.at_back);
       })
     ]
 
@@ -60,3 +62,6 @@ returns-then-len-eq0-clause-log g c =
     let h : HasFlushed (face c.args.self.now) (face c.args.self.now) s s c.args.index = subst (λ x. HasFlushed (face x) (face x) s s c.args.index) c.self.view_is
     (c.flush_comes_to.ensures.nothing k s c.args.index c.place-place.result here.holds here.own here.at (let none = c.len.ensures in cc)) in
     h.log
+
+pub returns-then-len-eq0-clause-at_back : goal.returns-then-len-eq0-clause-at_back
+returns-then-len-eq0-clause-at_back g c = did_nothing (g.L.BackLink.state c.args.link.now) (g.L.BackLink.told c.args.link.now)

@@ -5,8 +5,8 @@ use Rattle.front_moves.specs.Core.{CoreParts}
 use Rattle.front_moves.proofs.Preparing.{test_is}
 use Rattle.front_moves.proofs.group_core.Core.is_touched.Goals as goal
 
-pub returns-in-Some : goal.returns-in-Some
-returns-in-Some c = λ s h.
+pub returns-in-Some-clause-some : goal.returns-in-Some-clause-some
+returns-in-Some-clause-some c = λ s h.
     let k : CoreParts = c.args.self.now in
     let is : entry c.args.buffer k.buffers ≡ Some c.in-Some.store.now = ap (λ (x : CoreParts). entry c.args.buffer x.buffers) (sym c.self.view_is) ∙ sym c.in-Some.ensures in
     let last : c.last.result ≡ last_of k.indexes c.args.index = c.last.ensures ∙ ap (λ (x : CoreParts). last_of x.indexes c.args.index) c.self.view_is in

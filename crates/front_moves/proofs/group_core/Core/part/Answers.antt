@@ -1,4 +1,7 @@
+use Rattle.std.proofs.Common.{arith}
 use Rattle.front_moves.specs.Core.{face}
+use Rattle.front_moves.proofs.AtBack.{did_nothing, did_for}
+use Rattle.front_moves.proofs.Handing.{is_touching}
 use Rattle.front_moves.proofs.Preparing.{on_ok, on_ok_both, some_flushed, apart_flushed, apart_by_test}
 use Rattle.front_moves.proofs.group_core.Core.part.Goals as goal
 
@@ -13,4 +16,13 @@ returns-then-is_touched-clause-apart g c =
 
 pub returns-clause-apart : goal.returns-clause-apart
 returns-clause-apart g c =
-    apart_by_test (face c.args.self.now) c.args.index c.args.buffer c.is_touched.result (c.is_touched.ensures (g.L.BackLink.state c.args.link.now) c.requires.holds) c.if-is_touched.false
+    apart_by_test (face c.args.self.now) c.args.index c.args.buffer c.is_touched.result (c.is_touched.ensures.some (g.L.BackLink.state c.args.link.now) c.requires.holds) c.if-is_touched.false
+
+pub returns-then-is_touched-clause-at_back : goal.returns-then-is_touched-clause-at_back
+returns-then-is_touched-clause-at_back g c =
+    did_for (omega arith)
+    (is_touching (face c.args.self.now) c.args.index c.args.buffer c.is_touched.result (c.is_touched.ensures.some (g.L.BackLink.state c.args.link.now) c.requires.holds) c.is_touched.ensures.none c.if-is_touched.true)
+    c.flush.ensures.at_back
+
+pub returns-clause-at_back : goal.returns-clause-at_back
+returns-clause-at_back g c = did_nothing (g.L.BackLink.state c.args.link.now) (g.L.BackLink.told c.args.link.now)

@@ -1,9 +1,19 @@
 use Rattle.std.proofs.Common.{◌≡◌, ℕ, ◌*◌, ◌+◌, sym, ap, ◌∙◌, arith}
 use Rattle.back_core.specs.Link.{Link}
 use Rattle.front_moves.specs.Core.{CoreParts, face, HasFlushedSome}
-use Rattle.front_moves.proofs.Preparing.{flushed_more, apart_kept, apart_then, same_by_test}
+use Rattle.front_moves.proofs.AtBack.{did_nothing, good_then}
+use Rattle.front_moves.proofs.Handing.{is_cross}
+use Rattle.front_moves.proofs.Preparing.{none_flushed, flushed_more, none_apart, apart_kept, apart_then, same_by_test, other_by_test}
 use Rattle.front_moves.proofs.group_core.Core.part_others.Goals as goal
 use Rattle.front_moves.proofs.group_core.Core.part_others.Goals.{then-ne+in-Ok, else-ne}
+
+pub loop-place-init : goal.loop-place-init
+loop-place-init g c = record {
+  some = none_flushed (face c.args.self.now) (g.L.BackLink.state c.args.link.now) c.requires.holds;
+  apart = none_apart (face c.args.self.now) c.args.index c.args.buffer;
+  faults = omega arith;
+  at_back = did_nothing (g.L.BackLink.state c.args.link.now) (g.L.BackLink.told c.args.link.now);
+}
 
 pub loop-place-preserved : goal.loop-place-preserved
 loop-place-preserved g c =
@@ -24,8 +34,8 @@ loop-place-preserved g c =
             some = flushed_more (face first) (face k) (face d) (g.L.BackLink.state c.args.link.now) before now c.loop-place.invariant.some some;
             apart = apart_then (face d) c.args.index c.args.buffer place other also (apart_kept (face k) (face d) c.args.index c.args.buffer place some.flushed c.loop-place.invariant.apart) (λ ne. w.in-Ok.ensures.apart);
             faults = let low = c.loop-place.invariant.faults in let later = w.part.ensures.cause.later in omega (arith, low, later);
-            outside = w.part.ensures.outside ∙ c.loop-place.invariant.outside;
-            uploads = let low = c.loop-place.invariant.uploads in let later = w.part.ensures.uploads in omega (arith, low, later);
+            at_back = good_then (omega arith) (λ batch may. may) (is_cross (face first) (face k) c.args.index other c.args.buffer c.loop-place.invariant.some.flushed.objects (other_by_test other c.args.index c.ne.result c.ne.ensures w.if-ne.true))
+                c.loop-place.invariant.at_back w.in-Ok.ensures.at_back;
           })
       | else-ne w ↦
           let same : other ≡ c.args.index = same_by_test other c.args.index c.ne.result c.ne.ensures w.if-ne.false in
@@ -33,7 +43,12 @@ loop-place-preserved g c =
             some = c.loop-place.invariant.some;
             apart = apart_then (face k) c.args.index c.args.buffer place other at c.loop-place.invariant.apart (λ ne. absurd (ne same));
             faults = c.loop-place.invariant.faults;
-            outside = c.loop-place.invariant.outside;
-            uploads = c.loop-place.invariant.uploads;
+            at_back = c.loop-place.invariant.at_back;
           })
     ]
+
+pub returns-in-Err-clause-at_back : goal.returns-in-Err-clause-at_back
+returns-in-Err-clause-at_back g c =
+    good_then (omega arith) (λ batch may. may)
+    (is_cross (face c.args.self.now) (face c.loop-place.self) c.args.index c.new-other.result c.args.buffer c.loop-place.invariant.some.flushed.objects (other_by_test c.new-other.result c.args.index c.ne.result c.ne.ensures c.if-ne.true))
+    c.loop-place.invariant.at_back c.in-Err.ensures.at_back

@@ -1,4 +1,4 @@
-use Rattle.std.proofs.Common.{◌≡◌, ◌+◌, ℕ, Some, length, sym, ap, subst, ◌∙◌, arith}
+use Rattle.std.proofs.Common.{◌≡◌, ◌+◌, ℕ, Some, length, sym, ap, subst, ◌∙◌}
 use Rattle.cells.specs.Contents.{cells, Agrees}
 use Rattle.vk_types.specs.declared.handles.HandleId.{HandleId}
 use Rattle.tables.specs.Table.{entry}
@@ -10,8 +10,6 @@ use Rattle.front_model.specs.Face.{Buffer, view}
 use Rattle.front_moves.specs.Core.{CoreParts, face}
 use Rattle.front_moves.proofs.Preparing.{on_ok}
 use Rattle.front_moves.proofs.Reading.{on_err}
-use Rattle.front_moves.specs.Uploads.{uploaded}
-use Rattle.front_moves.proofs.Outcomes.{on_either}
 use Rattle.front_moves.proofs.group_core.Core.read.Goals as goal
 
 pub read_host-requires-clause-may : goal.read_host-requires-clause-may
@@ -52,10 +50,3 @@ returns-in-Some-clause-fetched g c = on_ok c.read_host.result (λ e. (c.id.resul
 pub returns-in-Some-clause-err : goal.returns-in-Some-clause-err
 returns-in-Some-clause-err g c =
     on_err c.read_host.result (λ e. c.host_comes_to.ensures.owns c.args.self.now (g.L.BackLink.state c.args.link.now) (g.L.BackLink.state c.read_host.new.self) c.requires.holds e) c.read_host.ensures.err
-
-pub returns-in-Some-clause-uploads : goal.returns-in-Some-clause-uploads
-returns-in-Some-clause-uploads g c =
-    let s : Link = g.L.BackLink.state c.args.link.now in
-    let t : Link = g.L.BackLink.state c.read_host.new.self in
-    let same : uploaded t.mine ≡ uploaded s.mine = on_either c.read_host.result (λ is. c.uploads_come_to.ensures.fetches s t c.id.result.0 c.args.at c.read_host.new.out is) (λ is. c.uploads_come_to.ensures.stays s t is) c.read_host.ensures.ok c.read_host.ensures.err in
-    omega arith

@@ -10,12 +10,12 @@ use Rattle.front_model.specs.Steps.{fresh_slot, fenced}
 use Rattle.front_model.specs.Wanted.{with_copy}
 use Rattle.front_moves.specs.Core.{CoreParts, face, IsQuietBut}
 use Rattle.front_moves.specs.Recording.{IsNextSerial, HasBuffer, IsRecorded}
+use Rattle.front_moves.proofs.AtBack.{might_stop}
 use Rattle.front_moves.proofs.Outcomes.{from_ok, from_not_ok}
 use Rattle.front_moves.proofs.Recorded.{recorded_from}
 use Rattle.front_moves.proofs.Recordable.{copy_node}
 use Rattle.front_moves.proofs.BufferStores.{KeepsHandles, same_handles, same_stores, kept_then}
 use Rattle.front_moves.proofs.Uploads.{hand_at}
-use Rattle.front_moves.specs.Uploads.{uploaded}
 use Rattle.front_moves.proofs.group_core.Core.record_upload.Given.{Over}
 use Rattle.front_moves.proofs.group_core.Core.record_upload.Goals as goal
 use Rattle.front_moves.proofs.group_core.Core.record_upload.Goals.{Then-is_ok-2, else-is_ok-via-then-is_ok+else-is_ok-2, else-is_ok-via-else-is_ok}
@@ -71,16 +71,5 @@ returns-clause-err g c =
     subst (Owns (face c.else-is_ok.self).objects) (sym c.abandon.ensures.state)
     (c.stopped_recording_comes_to.ensures.lets_go c.args.self.now c.else-is_ok.self s c.args.staging.handle.0 c.args.len c.requires.holds keeps)
 
-pub returns-then-is_ok-2-clause-uploads : goal.returns-then-is_ok-2-clause-uploads
-returns-then-is_ok-2-clause-uploads g c =
-    let s : Link = g.L.BackLink.state c.args.link.now in
-    let t : Link = g.L.BackLink.state c.give.new.self in
-    let same : uploaded t.mine ≡ uploaded s.mine = c.uploads_come_to.ensures.gives s t c.args.staging.handle.0 c.args.staging.uses c.give.ensures.state in
-    omega arith
-
-pub returns-clause-uploads : goal.returns-clause-uploads
-returns-clause-uploads g c =
-    let s : Link = g.L.BackLink.state c.args.link.now in
-    let t : Link = g.L.BackLink.state c.abandon.new.self in
-    let same : uploaded t.mine ≡ uploaded s.mine = c.uploads_come_to.ensures.lets_go s t c.args.staging.handle.0 c.abandon.ensures.state in
-    omega arith
+pub returns-clause-at_back : goal.returns-clause-at_back
+returns-clause-at_back g c = might_stop c.abandon.ensures.at_back

@@ -1,8 +1,11 @@
-use Rattle.std.proofs.Common.{ap, subst, ◌∙◌}
+use Rattle.std.proofs.Common.{ap, subst, ◌∙◌, arith}
 use Rattle.std.specs.Prelude.{Option}
 use Rattle.back_core.specs.Link.{Link}
 use Rattle.front_model.specs.Face.{Object, Buffer, Face, Outline}
 use Rattle.front_moves.specs.Core.{face, HasStore, IsParted, EndsWithBarrier}
+use Rattle.front_moves.specs.Reasons.{IsSettling}
+use Rattle.front_moves.proofs.AtBack.{did_for, might_wait, might_stop, good_then, then_handless}
+use Rattle.front_moves.proofs.Handing.{settles_parting, settles_reading}
 use Rattle.front_moves.proofs.Preparing.{on_ok_both}
 use Rattle.front_moves.proofs.Settling.{untouched_after, quiet_after, settled}
 use Rattle.front_moves.proofs.group_core.Core.settle.Goals as goal
@@ -42,3 +45,21 @@ returns-in-Ok-flush-clause-moved g c =
     (λ moved quiet. settled (face c.args.self.now) (face c.prepare.new.self) (face c.record_barrier.new.self) (face c.flush.new.self) s t u v c.args.buffer
     c.in-Ok.ensures.moved c.in-Ok-record_barrier.ensures.moved c.in-Ok-flush.ensures.moved moved quiet)
     c.wait_for_uses.ensures.moved (returns-in-Ok-flush-clause-quiet g c)
+
+pub returns-in-Ok-flush-clause-at_back : goal.returns-in-Ok-flush-clause-at_back
+returns-in-Ok-flush-clause-at_back g c =
+    then_handless (omega arith)
+    (might_wait (good_then {due = 0} {MayHand = IsSettling (face c.args.self.now) c.args.index c.args.buffer} (omega arith) (settles_parting (face c.args.self.now) c.args.index c.args.buffer)
+    (settles_reading (face c.args.self.now) (face c.record_barrier.new.self) c.args.index c.args.buffer) c.in-Ok.ensures.at_back c.in-Ok-flush.ensures.at_back))
+    c.wait_for_uses.ensures.at_back
+
+pub returns-in-Err-flush-clause-at_back : goal.returns-in-Err-flush-clause-at_back
+returns-in-Err-flush-clause-at_back g c =
+    might_wait (good_then (omega arith) (settles_parting (face c.args.self.now) c.args.index c.args.buffer) (settles_reading (face c.args.self.now) (face c.record_barrier.new.self) c.args.index c.args.buffer)
+    c.in-Ok.ensures.at_back c.in-Err-flush.ensures.at_back)
+
+pub returns-in-Err-record_barrier-clause-at_back : goal.returns-in-Err-record_barrier-clause-at_back
+returns-in-Err-record_barrier-clause-at_back g c = might_wait (might_stop (did_for (omega arith) (settles_parting (face c.args.self.now) c.args.index c.args.buffer) c.in-Ok.ensures.at_back))
+
+pub returns-in-Err-clause-at_back : goal.returns-in-Err-clause-at_back
+returns-in-Err-clause-at_back g c = might_wait (did_for (omega arith) (settles_parting (face c.args.self.now) c.args.index c.args.buffer) c.in-Err.ensures.at_back)

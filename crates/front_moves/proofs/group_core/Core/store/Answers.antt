@@ -1,6 +1,8 @@
-use Rattle.std.proofs.Common.{length, Some}
+use Rattle.std.proofs.Common.{length, Some, arith}
 use Rattle.std.proofs.lemmas.Result.{on_ok_weaker}
 use Rattle.front_moves.specs.Core.{face}
+use Rattle.back_core.specs.Frame.{NoBatch}
+use Rattle.front_moves.proofs.AtBack.{did_for, handless_then}
 use Rattle.front_moves.proofs.BufferLaws.{ended_none, stored_anew, stored_nothing}
 use Rattle.front_moves.proofs.group_core.Core.store.Goals as goal
 
@@ -17,3 +19,13 @@ returns-in-Ok-clause-moved g c =
     (stored_anew (face c.args.self.now) (face c.end.new.self) (face c.begin.new.self) (g.L.BackLink.state c.args.link.now) (g.L.BackLink.state c.end.new.link) (g.L.BackLink.state c.filled.new.link) (g.L.BackLink.state c.begin.new.link)
     c.args.buffer c.in-Ok.fresh.0 (length c.args.bytes.now) (Some c.args.bytes.now) c.end.ensures.moved c.in-Ok.ensures.ok)
     c.begin.ensures.moved
+
+pub returns-then-is_empty-clause-at_back : goal.returns-then-is_empty-clause-at_back
+returns-then-is_empty-clause-at_back g c = did_for (omega arith) (λ batch may. may) c.end.ensures.at_back
+
+pub returns-in-Ok-clause-at_back : goal.returns-in-Ok-clause-at_back
+returns-in-Ok-clause-at_back g c =
+    handless_then (omega arith) (handless_then {due = length c.args.bytes.now} {MayHand = NoBatch} (omega arith) c.end.ensures.at_back c.in-Ok.ensures.at_back) c.begin.ensures.at_back
+
+pub returns-in-Err-clause-at_back : goal.returns-in-Err-clause-at_back
+returns-in-Err-clause-at_back g c = handless_then (omega arith) c.end.ensures.at_back c.in-Err.ensures.at_back

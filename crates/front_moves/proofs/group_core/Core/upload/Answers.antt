@@ -1,5 +1,8 @@
+use Rattle.std.proofs.Common.{length, [], ◌∷◌, arith}
 use Rattle.std.proofs.lemmas.Result.{on_ok_weaker}
 use Rattle.front_moves.specs.Core.{face}
+use Rattle.front_moves.specs.Reasons.{IsParting}
+use Rattle.front_moves.proofs.AtBack.{did_for, then_handless}
 use Rattle.front_moves.proofs.MovesInTurn.{store_kept, upload_then}
 use Rattle.front_moves.proofs.group_core.Core.upload.Goals as goal
 
@@ -16,3 +19,15 @@ returns-in-Ok-staged-clause-moved g c =
     (upload_then (face c.args.self.now) (face c.prepare.new.self) (face c.record_upload.new.self) (g.L.BackLink.state c.args.link.now) (g.L.BackLink.state c.prepare.new.link) (g.L.BackLink.state c.staged.new.link) (g.L.BackLink.state c.record_upload.new.link)
     c.args.buffer c.args.at c.in-Ok-staged.staging.handle.0 c.args.bytes.now c.in-Ok.ensures.moved c.in-Ok-staged.ensures.ok)
     c.record_upload.ensures.moved
+
+pub returns-in-Ok-staged-clause-at_back : goal.returns-in-Ok-staged-clause-at_back
+returns-in-Ok-staged-clause-at_back g c =
+    then_handless (omega arith)
+    (then_handless {due = length c.args.bytes.now} {MayHand = IsParting (face c.args.self.now) c.args.index (c.args.buffer ∷ [])} (omega arith) c.in-Ok.ensures.at_back c.in-Ok-staged.ensures.at_back)
+    c.record_upload.ensures.at_back
+
+pub returns-in-Err-staged-clause-at_back : goal.returns-in-Err-staged-clause-at_back
+returns-in-Err-staged-clause-at_back g c = then_handless (omega arith) c.in-Ok.ensures.at_back c.in-Err-staged.ensures.at_back
+
+pub returns-in-Err-clause-at_back : goal.returns-in-Err-clause-at_back
+returns-in-Err-clause-at_back g c = did_for (omega arith) (λ batch may. may) c.in-Err.ensures.at_back

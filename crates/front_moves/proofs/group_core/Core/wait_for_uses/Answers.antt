@@ -1,9 +1,10 @@
-use Rattle.std.proofs.Common.{◌≡◌, ◌≤◌, ◌+◌, ◌*◌, sym, ap, subst, ◌∙◌, arith}
+use Rattle.std.proofs.Common.{◌≡◌, ◌≤◌, ◌+◌, ◌*◌, true, false, sym, ap, subst, ◌∙◌, arith}
 use Rattle.back_core.specs.Link.{Link}
+use Rattle.back_core.specs.Frame.{AtBack, NoBatch}
 use Rattle.front_model.specs.Face.{Buffer, Face}
 use Rattle.front_moves.specs.Core.{CoreParts, face}
-use Rattle.front_moves.proofs.Waiting.{WaitedTo, learns_nothing, learns_then, used_by, waited_more}
-use Rattle.front_moves.specs.Uploads.{uploaded}
+use Rattle.front_moves.proofs.AtBack.{did_nothing, then_handless}
+use Rattle.front_moves.proofs.Waiting.{WaitedTo, waited_to_none, learns_nothing, learns_then, used_by, waited_more}
 use Rattle.front_moves.proofs.group_core.Core.wait_for_uses.Goals as goal
 use Rattle.front_moves.proofs.group_core.Core.wait_for_uses.Goals.{then-number-gt0+in-Ok, else-number-gt0}
 
@@ -20,6 +21,13 @@ returns-in-Err-clause-err g c =
     let t : Link = g.L.BackLink.state c.loop-place.link in
     let u : Link = g.L.BackLink.state c.wait_for.new.self in
     c.waiting_comes_to.ensures.owns (face c.args.self.now) s u c.requires.holds (learns_then s t u c.loop-place.invariant.waited.learns c.in-Err.ensures.err)
+
+pub loop-place-init : goal.loop-place-init
+loop-place-init g c = record {
+  waited = waited_to_none (face c.args.self.now) (g.L.BackLink.state c.args.link.now) c.args.buffer;
+  faults = omega arith;
+  at_back = did_nothing (g.L.BackLink.state c.args.link.now) (g.L.BackLink.told c.args.link.now);
+}
 
 pub loop-place-preserved : goal.loop-place-preserved
 loop-place-preserved g c =
@@ -41,14 +49,15 @@ loop-place-preserved g c =
                 let later : g.L.BackLink.faults c.loop-place.link ≤ g.L.BackLink.faults w.wait_for.new.self = w.wait_for.ensures.cause.later in
                 let before : g.L.BackLink.faults c.args.link.now ≤ g.L.BackLink.faults c.loop-place.link = c.loop-place.invariant.faults in
                 subst (λ l. g.L.BackLink.faults c.args.link.now ≤ g.L.BackLink.faults l) (sym w.link-is) (omega arith);
-            outside = ap g.L.BackLink.outside w.link-is ∙ w.wait_for.ensures.outside ∙ c.loop-place.invariant.outside;
+            at_back = subst (λ l. AtBack s (g.L.BackLink.state l) (g.L.BackLink.told c.args.link.now) (g.L.BackLink.told l) 0 true false NoBatch) (sym w.link-is)
+                (then_handless (omega arith) c.loop-place.invariant.at_back w.in-Ok.ensures.at_back);
           }
       | else-number-gt0 w ↦ record {
         waited = subst (λ l. WaitedTo f s (g.L.BackLink.state l) c.args.buffer (c.loop-place.place + 1)) (sym w.link-is)
             (waited_more f s t t c.args.buffer c.loop-place.place c.new-index.result c.last_use-number.result c.requires.holds c.requires.untouched c.loop-place.invariant.waited
             (learns_nothing t) at c.last_use-number.ensures.used (let none : c.last_use-number.result ≤ 0 = w.if-number-gt0.false in omega arith));
         faults = subst (λ l. g.L.BackLink.faults c.args.link.now ≤ g.L.BackLink.faults l) (sym w.link-is) c.loop-place.invariant.faults;
-        outside = ap g.L.BackLink.outside w.link-is ∙ c.loop-place.invariant.outside;
+        at_back = subst (λ l. AtBack s (g.L.BackLink.state l) (g.L.BackLink.told c.args.link.now) (g.L.BackLink.told l) 0 true false NoBatch) (sym w.link-is) c.loop-place.invariant.at_back;
       }
     ]
 
@@ -56,17 +65,5 @@ pub returns-clause-moved : goal.returns-clause-moved
 returns-clause-moved g c =
     c.waiting_comes_to.ensures.moved (face c.args.self.now) (g.L.BackLink.state c.args.link.now) (g.L.BackLink.state c.loop-place.link) c.requires.holds c.loop-place.invariant.waited.learns
 
-pub returns-in-Err-clause-uploads : goal.returns-in-Err-clause-uploads
-returns-in-Err-clause-uploads g c =
-    let s : Link = g.L.BackLink.state c.args.link.now in
-    let t : Link = g.L.BackLink.state c.loop-place.link in
-    let u : Link = g.L.BackLink.state c.wait_for.new.self in
-    let same : uploaded u.mine ≡ uploaded s.mine = c.uploads_come_to.ensures.learns s u (learns_then s t u c.loop-place.invariant.waited.learns c.in-Err.ensures.err) in
-    omega arith
-
-pub returns-clause-uploads : goal.returns-clause-uploads
-returns-clause-uploads g c =
-    let s : Link = g.L.BackLink.state c.args.link.now in
-    let t : Link = g.L.BackLink.state c.loop-place.link in
-    let same : uploaded t.mine ≡ uploaded s.mine = c.uploads_come_to.ensures.learns s t c.loop-place.invariant.waited.learns in
-    omega arith
+pub returns-in-Err-clause-at_back : goal.returns-in-Err-clause-at_back
+returns-in-Err-clause-at_back g c = then_handless (omega arith) c.loop-place.invariant.at_back c.in-Err.ensures.at_back

@@ -7,9 +7,6 @@ use Rattle.back_core.specs.Needs.{HostMay}
 use Rattle.front_moves.specs.Core.{CoreParts}
 use Rattle.front_moves.proofs.Preparing.{on_ok}
 use Rattle.front_moves.proofs.Reading.{store_size, on_err}
-use Rattle.front_moves.specs.Uploads.{uploaded}
-use Rattle.front_moves.proofs.Outcomes.{on_either}
-use Rattle.front_moves.proofs.Uploaded.{not_more, not_more_than}
 use Rattle.front_moves.proofs.group_core.Core.write.Goals as goal
 
 pub write_host-requires : goal.write_host-requires
@@ -39,12 +36,3 @@ returns-in-Some-clause-moved g c =
 pub returns-in-Some-clause-err : goal.returns-in-Some-clause-err
 returns-in-Some-clause-err g c =
     on_err c.write_host.result (λ e. c.host_comes_to.ensures.owns c.args.self.now (g.L.BackLink.state c.args.link.now) (g.L.BackLink.state c.write_host.new.self) c.requires.holds e) c.write_host.ensures.err
-
-pub returns-in-Some-clause-uploads : goal.returns-in-Some-clause-uploads
-returns-in-Some-clause-uploads g c =
-    let s : Link = g.L.BackLink.state c.args.link.now in
-    let t : Link = g.L.BackLink.state c.write_host.new.self in
-    on_either c.write_host.result
-    (λ is. not_more (uploaded t.mine) (uploaded s.mine + length c.args.bytes.now) (c.uploads_come_to.ensures.writes s t c.id.result.0 c.args.at c.args.bytes.now is))
-    (λ is. not_more_than (uploaded t.mine) (uploaded s.mine) (length c.args.bytes.now) (c.uploads_come_to.ensures.stays s t is))
-    c.write_host.ensures.ok c.write_host.ensures.err
