@@ -1,5 +1,5 @@
 -- Copies between buffers, and maps of a buffer.
-use Rattle.std.proofs.Common.{arith, ◌≡◌, ◌≢◌, ℕ, ℤ, ◌+◌, ◌<◌, ◌≤◌, ◌==◌, Bool, true, false, cond, Option, Some, None, Err, [], ◌∷◌, refl, sym, ◌∙◌, ap, subst, inl, inr, is_some}
+use Rattle.std.proofs.Common.{arith, ◌≡◌, ◌≢◌, ℕ, ℤ, ◌+◌, ◌<◌, ◌≤◌, ◌==◌, Bool, true, false, cond, Option, Some, None, Ok, Err, [], ◌∷◌, refl, sym, ◌∙◌, ap, subst, inl, inr, is_some}
 use Rattle.std.specs.Prelude.{◌⊎◌, unsigned_abs}
 use Rattle.std.specs.List.{find}
 use Rattle.std.specs.Option.{option_map, option_and_then}
@@ -40,6 +40,10 @@ use Rattle.front_core.proofs.BufferCalls.{context_of, accepted_of, bound_of, don
 -- a stop has the cause that it had in the move
 pub same_cause : {A B : Type 0} (before now : ℕ) (stop : Stop) → HasCause {T = A} before now (Err stop) → HasCause {T = B} before now (Err stop)
 same_cause before now stop cause = record { later = cause.later; lost = λ e. let same : stop ≡ Lost = cc in cause.lost (ap Err same) }
+
+-- what went well has the cause that it had in the move
+pub good_cause : {A B : Type 0} (before now : ℕ) (x : A) (y : B) → HasCause {T = A} before now (Ok x) → HasCause {T = B} before now (Ok y)
+good_cause before now x y cause = record { later = cause.later; lost = λ e. let bad : ⊥ = cc in absurd bad }
 
 -- The index of a context
 

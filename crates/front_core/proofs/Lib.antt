@@ -1,3 +1,4 @@
+pub mod AtTheBack
 pub mod AnsweredCalls
 pub mod BufferCalls
 pub mod ContextIndexes
@@ -12,3 +13,4 @@ pub mod NewFronts
 pub mod StateCalls
 pub mod Switching
 pub mod ThreadsStay
+pub mod Dues

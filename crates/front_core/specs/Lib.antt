@@ -3,3 +3,4 @@ pub mod Filled
 pub mod Copies
 pub mod Front
 pub mod Share
+pub mod Economy

@@ -7,8 +7,6 @@ use Rattle.gl_calls.specs.declared.words.ObjectKind.TheVariants as kinds
 use Rattle.gl_calls.specs.declared.words.BindTarget.TheVariants as targets
 use Rattle.gl_calls.specs.declared.reply.Reply.{Reply}
 use Rattle.gl_calls.specs.declared.reply.Reply.TheVariants as reply
-use Rattle.gl_calls.specs.declared.payload.Payload.{Payload}
-use Rattle.gl_calls.specs.Words.{payload_len}
 use Rattle.tables.specs.Table.{Entries, entry, has, any_value}
 use Rattle.gl_model.specs.declared.state.Context.{Context}
 use Rattle.gl_model.specs.declared.state.GroupState.{GroupState}
@@ -100,18 +98,6 @@ HasOrigin s t _ = Unit {0}
 abbrev pub is_map_read : Call → Bool
 is_map_read (call.MapRead target offset len) = true
 is_map_read _ = false
-
--- the length of data, or of none
-abbrev pub data_len : Option Payload → ℕ
-data_len None = 0
-data_len (Some payload) = payload_len payload
-
--- how many bytes a call may have the host write: those of its data
-abbrev pub upload_due : Call → ℕ
-upload_due (call.BufferData target size usage payload) = data_len payload
-upload_due (call.BufferSubData target offset payload) = payload_len payload
-upload_due (call.MapWrite target offset payload) = payload_len payload
-upload_due _ = 0
 
 -- the calls that are built
 abbrev pub is_built : Call → Bool

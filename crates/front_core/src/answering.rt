@@ -1,13 +1,14 @@
 // One call of a thread: it is refused, or carried out.
-ghost use Rattle.std.specs.Prelude.{◌≡◌, ◌+◌, ◌≤◌, true, false, None, [], IfOk, IfSome, OnOk, OnErr};
+ghost use Rattle.std.specs.Prelude.{◌≡◌, ◌+◌, ◌≤◌, true, false, None, [], IfOk, IfSome, OnOk, OnErr, is_err};
 ghost use Rattle.vk_device.specs.Faults.{HasCause};
 ghost use Rattle.gl_model.specs.Refusal.{refusal};
 ghost use Rattle.front_model.specs.Stands.{Owns};
 ghost use Rattle.front_moves.specs.Core.{face};
 ghost use Rattle.front_core.specs.Answering.{changes_contexts, reaches_buffers};
-ghost use Rattle.front_core.specs.Share.{MayCall, IsCarriedOut, HaveIndexes, HasOrigin, is_built, is_map_read, replaced_by, upload_due};
+ghost use Rattle.front_core.specs.Share.{MayCall, IsCarriedOut, HaveIndexes, HasOrigin, is_built, is_map_read, replaced_by};
 ghost use Rattle.front_core.specs.Front.{MayAnswer, IsAnswered};
-ghost use Rattle.front_moves.specs.Uploads.{uploaded};
+ghost use Rattle.back_core.specs.Frame.{ActsAtBack};
+ghost use Rattle.front_core.specs.Economy.{upload_due, IsTrueReason, MayHandOver, due_of, waits_of, may_wait};
 
 use crate::answers_come_to::answers_come_to;
 use crate::share::Share;
@@ -59,8 +60,8 @@ impl Share {
         ensures group { (face self.new.core).group ≡ (face self.old.core).group }
         ensures err { OnErr result (Owns (face self.new.core).objects (L.state link.new)) }
         ensures cause { HasCause (L.faults link.old) (L.faults link.new) result }
-        ensures outside { L.outside link.new ≡ L.outside link.old }
-        ensures uploads { uploaded (L.state link.new).mine ≤ uploaded (L.state link.old).mine }
+        ensures at_back { ActsAtBack L.state L.told link.old link.new 0 false (is_err result)
+            (IsTrueReason (face self.old.core) self.old.state self.old.serials thread call.now) }
     {
         match call {
             Call::CreateContext { number } => self.create_context(link, thread, *number),
@@ -86,8 +87,8 @@ impl Share {
         ensures group { (face self.new.core).group ≡ (face self.old.core).group }
         ensures err { OnErr result (Owns (face self.new.core).objects (L.state link.new)) }
         ensures cause { HasCause (L.faults link.old) (L.faults link.new) result }
-        ensures outside { L.outside link.new ≡ L.outside link.old }
-        ensures uploads { uploaded (L.state link.new).mine ≤ uploaded (L.state link.old).mine + upload_due call.now }
+        ensures at_back { ActsAtBack L.state L.told link.old link.new (upload_due self.old.state thread call.now) (may_wait call.now) (is_err result)
+            (IsTrueReason (face self.old.core) self.old.state self.old.serials thread call.now) }
     {
         match call {
             Call::BufferData {
@@ -145,8 +146,8 @@ impl Share {
         ensures group { (face self.new.core).group ≡ (face self.old.core).group }
         ensures err { OnErr result (Owns (face self.new.core).objects (L.state link.new)) }
         ensures cause { HasCause (L.faults link.old) (L.faults link.new) result }
-        ensures outside { L.outside link.new ≡ L.outside link.old }
-        ensures uploads { uploaded (L.state link.new).mine ≤ uploaded (L.state link.old).mine + upload_due call.now }
+        ensures at_back { ActsAtBack L.state L.told link.old link.new (upload_due self.old.state thread call.now) (may_wait call.now) (is_err result)
+            (IsTrueReason (face self.old.core) self.old.state self.old.serials thread call.now) }
     {
         if reaches_buffers(call) {
             self.buffer_call(link, thread, call)
@@ -172,8 +173,8 @@ impl Share {
         ensures group { (face self.new.core).group ≡ (face self.old.core).group }
         ensures err { OnErr result (Owns (face self.new.core).objects (L.state link.new)) }
         ensures cause { HasCause (L.faults link.old) (L.faults link.new) result }
-        ensures outside { L.outside link.new ≡ L.outside link.old }
-        ensures uploads { uploaded (L.state link.new).mine ≤ uploaded (L.state link.old).mine + upload_due call.now }
+        ensures at_back { ActsAtBack L.state L.told link.old link.new (upload_due self.old.state thread call.now) (may_wait call.now) (is_err result)
+            (IsTrueReason (face self.old.core) self.old.state self.old.serials thread call.now) }
     {
         if changes_contexts(call) {
             return match self.context_call(link, thread, call) {
@@ -204,8 +205,8 @@ impl Share {
         ensures group { (face self.new.core).group ≡ (face self.old.core).group }
         ensures err { OnErr result (Owns (face self.new.core).objects (L.state link.new)) }
         ensures cause { HasCause (L.faults link.old) (L.faults link.new) result }
-        ensures outside { L.outside link.new ≡ L.outside link.old }
-        ensures uploads { uploaded (L.state link.new).mine ≤ uploaded (L.state link.old).mine + upload_due call.now }
+        ensures at_back { ActsAtBack L.state L.told link.old link.new (due_of self.old.state thread call.now) (waits_of self.old.state thread call.now) (is_err result)
+            (MayHandOver (face self.old.core) self.old.state self.old.serials thread call.now) }
     {
         answers_come_to();
         match decide(self.state.group(), thread, call) {

@@ -1,5 +1,5 @@
 // The calls that create, destroy and take contexts: each context has an index for its batches.
-ghost use Rattle.std.specs.Prelude.{◌≡◌, ℕ, ◌*◌, ◌==◌, ◌<◌, ◌≤◌, true, false, [], IfOk, IfSome, IfNone, OnOk, OnErr};
+ghost use Rattle.std.specs.Prelude.{◌≡◌, ℕ, ◌*◌, ◌==◌, ◌<◌, ◌≤◌, true, false, [], IfOk, IfSome, IfNone, OnOk, OnErr, is_err};
 ghost use Rattle.vk_device.specs.Faults.{HasCause};
 ghost use Rattle.tables.specs.Table.{any_value, has, only, with_entry, IsOrdered};
 ghost use Rattle.back_core.specs.Needs.{IsOfGroup};
@@ -7,7 +7,8 @@ ghost use Rattle.front_model.specs.Face.{outline_at, view};
 ghost use Rattle.front_model.specs.Stands.{Holds, Owns, Moved, IsQuiet, no_hands};
 ghost use Rattle.front_moves.specs.Core.{face};
 ghost use Rattle.front_core.specs.Share.{MayCall, IsCarriedOut, HaveIndexes, IsLowestFree, replaced_index};
-ghost use Rattle.front_moves.specs.Uploads.{uploaded};
+ghost use Rattle.back_core.specs.Frame.{ActsAtBack, NoBatch};
+ghost use Rattle.front_core.specs.Economy.{IsTrueReason, IsSwitch};
 
 use crate::share::Share;
 use crate::state_calls_come_to::state_calls_come_to;
@@ -74,8 +75,7 @@ impl Share {
         ensures group { (face self.new.core).group ≡ (face self.old.core).group }
         ensures err { OnErr result (Owns (face self.new.core).objects (L.state link.new)) }
         ensures cause { HasCause (L.faults link.old) (L.faults link.new) result }
-        ensures outside { L.outside link.new ≡ L.outside link.old }
-        ensures uploads { uploaded (L.state link.new).mine ≤ uploaded (L.state link.old).mine }
+        ensures at_back { ActsAtBack L.state L.told link.old link.new 0 false (is_err result) (IsSwitch self.old.state self.old.serials thread number) }
     {
         match self.given_up(thread, number) {
             Some(index) => self.core.flush(link, index, Reason::Switch),
@@ -98,8 +98,7 @@ impl Share {
         ensures group { (face self.new.core).group ≡ (face self.old.core).group }
         ensures err { OnErr result (Owns (face self.new.core).objects (L.state link.new)) }
         ensures cause { HasCause (L.faults link.old) (L.faults link.new) result }
-        ensures outside { L.outside link.new ≡ L.outside link.old }
-        ensures uploads { uploaded (L.state link.new).mine ≤ uploaded (L.state link.old).mine }
+        ensures at_back { ActsAtBack L.state L.told link.old link.new 0 false (is_err result) NoBatch }
     {
         state_calls_come_to();
         let Some(index) = free_index(&self.serials, self.core.group()) else {
@@ -128,8 +127,7 @@ impl Share {
         ensures group { (face self.new.core).group ≡ (face self.old.core).group }
         ensures err { OnErr result (Owns (face self.new.core).objects (L.state link.new)) }
         ensures cause { HasCause (L.faults link.old) (L.faults link.new) result }
-        ensures outside { L.outside link.new ≡ L.outside link.old }
-        ensures uploads { uploaded (L.state link.new).mine ≤ uploaded (L.state link.old).mine }
+        ensures at_back { ActsAtBack L.state L.told link.old link.new 0 false (is_err result) NoBatch }
     {
         match self.state_call(link, thread, &Call::DestroyContext { number }) {
             Ok(reply) => {
@@ -156,8 +154,8 @@ impl Share {
         ensures group { (face self.new.core).group ≡ (face self.old.core).group }
         ensures err { OnErr result (Owns (face self.new.core).objects (L.state link.new)) }
         ensures cause { HasCause (L.faults link.old) (L.faults link.new) result }
-        ensures outside { L.outside link.new ≡ L.outside link.old }
-        ensures uploads { uploaded (L.state link.new).mine ≤ uploaded (L.state link.old).mine }
+        ensures at_back { ActsAtBack L.state L.told link.old link.new 0 false (is_err result)
+            (IsTrueReason (face self.old.core) self.old.state self.old.serials thread (Call.MakeCurrent number)) }
     {
         match self.switch(link, thread, u32::from(number)) {
             Ok(()) => match self.state_call(link, thread, &Call::MakeCurrent { number }) {

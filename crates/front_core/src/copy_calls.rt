@@ -1,10 +1,11 @@
 // The calls that copy between buffers and map them.
-ghost use Rattle.std.specs.Prelude.{◌≡◌, ◌≤◌, IfOk, OnErr};
+ghost use Rattle.std.specs.Prelude.{◌≡◌, ◌≤◌, true, false, IfOk, OnErr, is_err};
 ghost use Rattle.vk_device.specs.Faults.{HasCause};
 ghost use Rattle.front_model.specs.Stands.{Owns};
 ghost use Rattle.front_moves.specs.Core.{face};
 ghost use Rattle.front_core.specs.Share.{MayCall, IsCarriedOut, HaveIndexes};
-ghost use Rattle.front_moves.specs.Uploads.{uploaded};
+ghost use Rattle.back_core.specs.Frame.{ActsAtBack};
+ghost use Rattle.front_core.specs.Economy.{IsTrueReason};
 
 use crate::copy_calls_come_to::copy_calls_come_to;
 use crate::share::Share;
@@ -32,8 +33,8 @@ impl Share {
         ensures group { (face self.new.core).group ≡ (face self.old.core).group }
         ensures err { OnErr result (Owns (face self.new.core).objects (L.state link.new)) }
         ensures cause { HasCause (L.faults link.old) (L.faults link.new) result }
-        ensures outside { L.outside link.new ≡ L.outside link.old }
-        ensures uploads { uploaded (L.state link.new).mine ≤ uploaded (L.state link.old).mine }
+        ensures at_back { ActsAtBack L.state L.told link.old link.new 0 false (is_err result)
+            (IsTrueReason (face self.old.core) self.old.state self.old.serials thread (Call.CopyBufferSubData from to read write size)) }
     {
         copy_calls_come_to();
         let Some((source, _)) = self.bound(thread, from) else {
@@ -79,8 +80,8 @@ impl Share {
         ensures group { (face self.new.core).group ≡ (face self.old.core).group }
         ensures err { OnErr result (Owns (face self.new.core).objects (L.state link.new)) }
         ensures cause { HasCause (L.faults link.old) (L.faults link.new) result }
-        ensures outside { L.outside link.new ≡ L.outside link.old }
-        ensures uploads { uploaded (L.state link.new).mine ≤ uploaded (L.state link.old).mine }
+        ensures at_back { ActsAtBack L.state L.told link.old link.new 0 true (is_err result)
+            (IsTrueReason (face self.old.core) self.old.state self.old.serials thread (Call.MapBufferRange target offset length access)) }
     {
         copy_calls_come_to();
         let Some((buffer, _)) = self.bound(thread, target) else {

@@ -1,5 +1,5 @@
 // The calls that fill buffers.
-ghost use Rattle.std.specs.Prelude.{◌≡◌, ◌+◌, ◌≤◌, IfOk, IfSome, OnOk, OnErr, length};
+ghost use Rattle.std.specs.Prelude.{◌≡◌, ◌+◌, ◌≤◌, false, [], ◌∷◌, IfOk, IfSome, OnOk, OnErr, length, is_err};
 ghost use Rattle.std.specs.Option.{option_map};
 ghost use Rattle.gl_calls.specs.Words.{payload_len, payload_bytes};
 ghost use Rattle.vk_device.specs.Faults.{HasCause};
@@ -7,9 +7,11 @@ ghost use Rattle.back_core.specs.Needs.{IsOfGroup};
 ghost use Rattle.front_model.specs.Face.{Buffer, put_object, outline_at, view};
 ghost use Rattle.front_model.specs.Stands.{Holds, Owns, Moved, no_hands};
 ghost use Rattle.front_moves.specs.Core.{face, IsQuietBut, outline_of_size, new_cells};
-ghost use Rattle.front_core.specs.Share.{MayCall, IsCarriedOut, HaveIndexes, data_len};
+ghost use Rattle.front_core.specs.Share.{MayCall, IsCarriedOut, HaveIndexes};
 ghost use Rattle.front_core.specs.Filled.{IsFilled};
-ghost use Rattle.front_moves.specs.Uploads.{uploaded};
+ghost use Rattle.back_core.specs.Frame.{ActsAtBack, NoBatch};
+ghost use Rattle.front_moves.specs.Reasons.{IsParting};
+ghost use Rattle.front_core.specs.Economy.{IsTrueReason, data_len};
 
 use crate::data_calls_come_to::{buffers_are_filled, data_calls_come_to};
 use crate::share::Share;
@@ -34,8 +36,7 @@ impl Share {
         ensures group { (face self.new.core).group ≡ (face self.old.core).group }
         ensures err { OnErr result (Owns (face self.new.core).objects (L.state link.new)) }
         ensures cause { HasCause (L.faults link.old) (L.faults link.new) result }
-        ensures outside { L.outside link.new ≡ L.outside link.old }
-        ensures uploads { uploaded (L.state link.new).mine ≤ uploaded (L.state link.old).mine + data_len payload.now }
+        ensures at_back { ActsAtBack L.state L.told link.old link.new (data_len payload.now) false (is_err result) NoBatch }
     {
         data_calls_come_to();
         let Some((buffer, _)) = self.bound(thread, target) else {
@@ -69,8 +70,7 @@ impl Share {
         ensures group { (face self.new.core).group ≡ (face self.old.core).group }
         ensures err { OnErr result (Owns (face self.new.core).objects (L.state link.new)) }
         ensures cause { HasCause (L.faults link.old) (L.faults link.new) result }
-        ensures outside { L.outside link.new ≡ L.outside link.old }
-        ensures uploads { uploaded (L.state link.new).mine ≤ uploaded (L.state link.old).mine + data_len payload.now }
+        ensures at_back { ActsAtBack L.state L.told link.old link.new (data_len payload.now) false (is_err result) NoBatch }
     {
         buffers_are_filled();
         match payload {
@@ -98,8 +98,8 @@ impl Share {
         ensures group { (face self.new.core).group ≡ (face self.old.core).group }
         ensures err { OnErr result (Owns (face self.new.core).objects (L.state link.new)) }
         ensures cause { HasCause (L.faults link.old) (L.faults link.new) result }
-        ensures outside { L.outside link.new ≡ L.outside link.old }
-        ensures uploads { uploaded (L.state link.new).mine ≤ uploaded (L.state link.old).mine + payload_len payload.now }
+        ensures at_back { ActsAtBack L.state L.told link.old link.new (payload_len payload.now) false (is_err result)
+            (IsTrueReason (face self.old.core) self.old.state self.old.serials thread (Call.BufferSubData target offset payload.now)) }
     {
         data_calls_come_to();
         let Some((buffer, facts)) = self.bound(thread, target) else {
@@ -138,8 +138,7 @@ impl Share {
         ensures group { (face self.new.core).group ≡ (face self.old.core).group }
         ensures err { OnErr result (Owns (face self.new.core).objects (L.state link.new)) }
         ensures cause { HasCause (L.faults link.old) (L.faults link.new) result }
-        ensures outside { L.outside link.new ≡ L.outside link.old }
-        ensures uploads { uploaded (L.state link.new).mine ≤ uploaded (L.state link.old).mine + length bytes.now }
+        ensures at_back { ActsAtBack L.state L.told link.old link.new (length bytes.now) false (is_err result) (IsParting (face self.old.core) index (buffer ∷ [])) }
     {
         buffers_are_filled();
         if bytes.is_empty() {

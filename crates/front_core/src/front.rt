@@ -1,14 +1,16 @@
 // The front of a share group: its calls in turn, and their history.
-ghost use Rattle.std.specs.Prelude.{◌≡◌, ◌+◌, ◌≤◌, ◌<◌, true, false, Contains, None, [], ◌∷◌, ◌++◌, IfOk, IfSome, OnOk, OnErr};
+ghost use Rattle.std.specs.Prelude.{◌≡◌, ◌+◌, ◌≤◌, ◌<◌, true, false, Contains, None, [], ◌∷◌, ◌++◌, IfOk, IfSome, OnOk, OnErr, is_err};
 ghost use Rattle.std.specs.Vec.{vec_len, vec_capacity};
 ghost use Rattle.vk_device.specs.Faults.{HasCause};
 ghost use Rattle.gl_model.specs.Refusal.{refusal};
 ghost use Rattle.gl_model.specs.Sizes.{HasItsData};
 ghost use Rattle.front_model.specs.Stands.{Owns};
 ghost use Rattle.front_moves.specs.Core.{face};
-ghost use Rattle.front_core.specs.Share.{HasOrigin, is_built, is_map_read, replaced_by, upload_due};
+ghost use Rattle.front_core.specs.Share.{HasOrigin, is_built, is_map_read, replaced_by};
 ghost use Rattle.front_core.specs.Front.{FrontStands, IsNewFront, HasAnswered, HasStopped, IsClosed, entry_of};
-ghost use Rattle.front_moves.specs.Uploads.{uploaded};
+ghost use Rattle.back_core.specs.Frame.{ActsAtBack, NoBatch};
+ghost use Rattle.front_moves.specs.Reasons.{IsEnding};
+ghost use Rattle.front_core.specs.Economy.{MayHandOver, due_of, waits_of};
 
 use crate::histories_come_to::histories_come_to;
 use crate::share::Share;
@@ -113,8 +115,8 @@ impl Front {
         ensures flushed { OnOk result (refusal self.old.state thread call.now ≡ None → IfSome (replaced_by self.old.state self.old.serials thread call.now) (λ i. (face self.new.core).pending i ≡ [])) }
         ensures err { OnErr result (HasStopped self.old self.new (L.state link.new)) }
         ensures cause { HasCause (L.faults link.old) (L.faults link.new) result }
-        ensures outside { L.outside link.new ≡ L.outside link.old }
-        ensures uploads { uploaded (L.state link.new).mine ≤ uploaded (L.state link.old).mine + upload_due call.now }
+        ensures at_back { ActsAtBack L.state L.told link.old link.new (due_of self.old.state thread call.now) (waits_of self.old.state thread call.now) (is_err result)
+            (MayHandOver (face self.old.core) self.old.state self.old.serials thread call.now) }
     {
         histories_come_to();
         self.share.state.objects_are_referred_to();
@@ -165,8 +167,7 @@ impl Front {
         ensures ok { OnOk result (IsClosed self.old self.new (L.state link.new)) }
         ensures err { OnErr result (HasStopped self.old self.new (L.state link.new)) }
         ensures cause { HasCause (L.faults link.old) (L.faults link.new) result }
-        ensures outside { L.outside link.new ≡ L.outside link.old }
-        ensures uploads { uploaded (L.state link.new).mine ≤ uploaded (L.state link.old).mine }
+        ensures at_back { ActsAtBack L.state L.told link.old link.new 0 false (is_err result) IsEnding }
     {
         histories_come_to();
         match self.share.core.close(link) {
@@ -187,8 +188,7 @@ impl Front {
         ensures history { result.items ≡ self.history }
         ensures rest { L.state link.new ≡ record (L.state link.old) { held = (L.state link.new).held } }
         ensures faults { L.faults link.old ≤ L.faults link.new }
-        ensures outside { L.outside link.new ≡ L.outside link.old }
-        ensures uploads { uploaded (L.state link.new).mine ≤ uploaded (L.state link.old).mine }
+        ensures at_back { ActsAtBack L.state L.told link.old link.new 0 false false NoBatch }
     {
         let Front {
             share,

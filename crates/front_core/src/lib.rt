@@ -11,9 +11,11 @@ mod data_calls;
 mod data_calls_come_to;
 mod front;
 mod histories_come_to;
+mod laws;
 mod map_calls;
 mod share;
 mod state_calls;
 mod state_calls_come_to;
 
 pub use front::Front;
+pub use laws::{dues_grow, fronts_go_on_standing};

@@ -1,10 +1,10 @@
 // The calls that write no cells: names, bindings, contexts, parameters and errors.
-ghost use Rattle.std.specs.Prelude.{◌≡◌, ◌≤◌, true, IfOk, OnErr};
+ghost use Rattle.std.specs.Prelude.{◌≡◌, ◌≤◌, true, false, IfOk, OnErr, is_err};
 ghost use Rattle.vk_device.specs.Faults.{HasCause};
 ghost use Rattle.front_model.specs.Stands.{Owns};
 ghost use Rattle.front_moves.specs.Core.{face};
 ghost use Rattle.front_core.specs.Share.{MayCall, IsCarriedOut, is_of_state};
-ghost use Rattle.front_moves.specs.Uploads.{uploaded};
+ghost use Rattle.back_core.specs.Frame.{ActsAtBack, NoBatch};
 
 use crate::share::Share;
 use crate::state_calls_come_to::state_calls_come_to;
@@ -29,8 +29,7 @@ impl Share {
         ensures group { (face self.new.core).group ≡ (face self.old.core).group }
         ensures err { OnErr result (Owns (face self.new.core).objects (L.state link.new)) }
         ensures cause { HasCause (L.faults link.old) (L.faults link.new) result }
-        ensures outside { L.outside link.new ≡ L.outside link.old }
-        ensures uploads { uploaded (L.state link.new).mine ≤ uploaded (L.state link.old).mine }
+        ensures at_back { ActsAtBack L.state L.told link.old link.new 0 false (is_err result) NoBatch }
     {
         state_calls_come_to();
         match apply(self.alloc, &mut self.state, thread, call) {

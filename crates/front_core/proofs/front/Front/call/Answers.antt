@@ -1,4 +1,4 @@
-use Rattle.std.proofs.Common.{◌≡◌, ◌∷◌, ◌++◌, [], List, refl, sym, ◌∙◌, ap, subst}
+use Rattle.std.proofs.Common.{◌≡◌, ◌∷◌, ◌++◌, [], List, refl, sym, ◌∙◌, ap, subst, false, true}
 use Rattle.gl_calls.specs.declared.call.Call.{Call}
 use Rattle.gl_calls.specs.declared.reply.Entry.{Entry}
 use Rattle.gl_calls.specs.declared.reply.Reply.{Reply}
@@ -7,6 +7,9 @@ use Rattle.front_model.specs.Stands.{Owns}
 use Rattle.front_moves.specs.Core.{face}
 use Rattle.front_core.specs.Front.{FrontModel, FrontStands, MayAnswer, IsAnswered, entry_of}
 use Rattle.front_core.specs.contracts.front.Front.{the_view}
+use Rattle.back_core.specs.Frame.{AtBack}
+use Rattle.front_core.specs.Economy.{due_of, waits_of, MayHandOver}
+use Rattle.front_core.proofs.AtTheBack.{nothing_done, though_stopped}
 use Rattle.front_core.proofs.front.Front.call.Goals as goal
 
 pub returns-in_default-clause-err : goal.returns-in_default-clause-err
@@ -55,3 +58,22 @@ returns-in-Err-note-clause-err g c = record {
   threads = ap (λ (f : FrontModel). f.threads) c.self.view_is;
   owns = c.histories_come_to.ensures.owns (face c.answer.new.self.core) (g.L.BackLink.state c.answer.new.link) c.in-Ok-answer.ensures.done.backs.holds;
 }
+
+pub returns-in_default-clause-at_back : goal.returns-in_default-clause-at_back
+returns-in_default-clause-at_back g c =
+    nothing_done (g.L.BackLink.state c.args.link.now) (g.L.BackLink.told c.args.link.now) (due_of c.args.self.now.state c.args.thread c.args.call.now) (waits_of c.args.self.now.state c.args.thread c.args.call.now) true (MayHandOver (face c.args.self.now.core) c.args.self.now.state c.args.self.now.serials c.args.thread c.args.call.now)
+
+pub returns-in-Err-clause-at_back : goal.returns-in-Err-clause-at_back
+returns-in-Err-clause-at_back g c =
+    subst (λ (x : FrontModel). AtBack (g.L.BackLink.state c.args.link.now) (g.L.BackLink.state c.answer.new.link) (g.L.BackLink.told c.args.link.now) (g.L.BackLink.told c.answer.new.link) (due_of x.state c.args.thread c.args.call.now) (waits_of x.state c.args.thread c.args.call.now) true (MayHandOver (face x.core) x.state x.serials c.args.thread c.args.call.now)) c.self.view_is
+    (though_stopped c.answer.ensures.at_back)
+
+pub returns-in-Ok-note-clause-at_back : goal.returns-in-Ok-note-clause-at_back
+returns-in-Ok-note-clause-at_back g c =
+    subst (λ (x : FrontModel). AtBack (g.L.BackLink.state c.args.link.now) (g.L.BackLink.state c.answer.new.link) (g.L.BackLink.told c.args.link.now) (g.L.BackLink.told c.answer.new.link) (due_of x.state c.args.thread c.args.call.now) (waits_of x.state c.args.thread c.args.call.now) false (MayHandOver (face x.core) x.state x.serials c.args.thread c.args.call.now)) c.self.view_is
+    c.in-Ok-answer.ensures.at_back
+
+pub returns-in-Err-note-clause-at_back : goal.returns-in-Err-note-clause-at_back
+returns-in-Err-note-clause-at_back g c =
+    subst (λ (x : FrontModel). AtBack (g.L.BackLink.state c.args.link.now) (g.L.BackLink.state c.answer.new.link) (g.L.BackLink.told c.args.link.now) (g.L.BackLink.told c.answer.new.link) (due_of x.state c.args.thread c.args.call.now) (waits_of x.state c.args.thread c.args.call.now) true (MayHandOver (face x.core) x.state x.serials c.args.thread c.args.call.now)) c.self.view_is
+    (though_stopped c.in-Ok-answer.ensures.at_back)

@@ -1,4 +1,4 @@
-use Rattle.std.proofs.Common.{◌≡◌, rules, refl, sym, subst, Some, None}
+use Rattle.std.proofs.Common.{◌≡◌, rules, refl, sym, subst, Some, None, false}
 use Rattle.gl_model.specs.declared.state.GroupState.{GroupState}
 use Rattle.gl_model.specs.Legal.{refused_group}
 use Rattle.gl_model.specs.Refusal.{refusal}
@@ -6,6 +6,8 @@ use Rattle.front_moves.specs.Core.{face}
 use Rattle.front_core.specs.Share.{HaveIndexes}
 use Rattle.front_core.specs.Front.{IsAnswered}
 use Rattle.front_core.proofs.ContextsStay.{refused_stays, indexes_stay}
+use Rattle.front_core.specs.Economy.{due_of, waits_of, MayHandOver}
+use Rattle.front_core.proofs.AtTheBack.{nothing_done, when_accepted, though_stopped}
 use Rattle.front_core.proofs.share.Share.answer.Goals as goal
 
 pub returns-in-Refused-clause-done : goal.returns-in-Refused-clause-done
@@ -28,3 +30,17 @@ returns-in-Ok-clause-done g c =
     let accepted : refusal c.args.self.now.state c.args.thread c.args.call.now ≡ None = search rules in
     c.answers_come_to.ensures.accepted (face c.args.self.now.core) (face c.carry_out.new.self.core) (g.L.BackLink.state c.args.link.now) (g.L.BackLink.state c.carry_out.new.link)
     c.args.self.now.state c.carry_out.new.self.state c.args.thread c.args.call.now c.in-Ok.reply accepted c.in-Ok.ensures.done
+
+pub returns-in-Refused-clause-at_back : goal.returns-in-Refused-clause-at_back
+returns-in-Refused-clause-at_back g c =
+    nothing_done (g.L.BackLink.state c.args.link.now) (g.L.BackLink.told c.args.link.now) (due_of c.args.self.now.state c.args.thread c.args.call.now) (waits_of c.args.self.now.state c.args.thread c.args.call.now) false (MayHandOver (face c.args.self.now.core) c.args.self.now.state c.args.self.now.serials c.args.thread c.args.call.now)
+
+pub returns-in-Ok-clause-at_back : goal.returns-in-Ok-clause-at_back
+returns-in-Ok-clause-at_back g c =
+    let accepted : refusal c.args.self.now.state c.args.thread c.args.call.now ≡ None = search rules in
+    when_accepted (face c.args.self.now.core) c.args.self.now.state c.args.self.now.serials c.args.thread c.args.call.now accepted c.in-Ok.ensures.at_back
+
+pub returns-in-Err-clause-at_back : goal.returns-in-Err-clause-at_back
+returns-in-Err-clause-at_back g c =
+    let accepted : refusal c.args.self.now.state c.args.thread c.args.call.now ≡ None = search rules in
+    when_accepted (face c.args.self.now.core) c.args.self.now.state c.args.self.now.serials c.args.thread c.args.call.now accepted (though_stopped c.carry_out.ensures.at_back)

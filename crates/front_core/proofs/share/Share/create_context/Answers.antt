@@ -1,4 +1,4 @@
-use Rattle.std.proofs.Common.{◌≡◌, ℕ, ◌==◌, true, ◌∙◌, ap, subst}
+use Rattle.std.proofs.Common.{◌≡◌, ℕ, ◌==◌, false, true, ◌∙◌, ap, subst}
 use Rattle.tables.specs.Table.{any_value, with_entry}
 use Rattle.gl_model.specs.declared.state.GroupState.{GroupState}
 use Rattle.gl_model.specs.GroupState.{new_context}
@@ -7,6 +7,8 @@ use Rattle.front_moves.specs.Core.{face}
 use Rattle.front_core.specs.Share.{IsLowestFree}
 use Rattle.front_core.proofs.FreeIndexes.{all_taken, few_contexts}
 use Rattle.front_core.proofs.ContextIndexes.{created_indexes, indexes_of_equal}
+use Rattle.back_core.specs.Frame.{NoBatch}
+use Rattle.front_core.proofs.AtTheBack.{nothing_done}
 use Rattle.front_core.proofs.share.Share.create_context.Goals as goal
 
 pub unreachable-requires : goal.unreachable-requires
@@ -37,3 +39,6 @@ returns-in-Ok-state_call-clause-indexes g c =
 
 pub returns-clause-err : goal.returns-clause-err
 returns-clause-err g c = c.state_calls_come_to.ensures.owns (face c.args.self.now.core) (g.L.BackLink.state c.args.link.now) c.requires.may.backs.holds
+
+pub returns-clause-at_back : goal.returns-clause-at_back
+returns-clause-at_back g c = nothing_done (g.L.BackLink.state c.args.link.now) (g.L.BackLink.told c.args.link.now) 0 false true NoBatch

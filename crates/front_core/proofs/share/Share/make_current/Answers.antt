@@ -1,4 +1,4 @@
-use Rattle.std.proofs.Common.{◌≡◌, sym, ◌∙◌, ap, subst, refl, []}
+use Rattle.std.proofs.Common.{◌≡◌, sym, ◌∙◌, ap, subst, refl, [], arith, false, true}
 use Rattle.std.specs.Prelude.{IfSome}
 use Rattle.gl_calls.specs.declared.call.Call.TheVariants as call
 use Rattle.tables.specs.Table.{has, only}
@@ -8,6 +8,9 @@ use Rattle.front_moves.specs.Core.{face}
 use Rattle.front_core.specs.Share.{MayCall, IsCarriedOut, HaveIndexes, replaced_index}
 use Rattle.front_core.proofs.ContextIndexes.{left_indexes, fewer-taken, indexes_of_equal}
 use Rattle.front_core.proofs.Switching.{may_still, carried_from, flushed_still}
+use Rattle.back_core.proofs.Frames.{then_within, no_batch}
+use Rattle.front_core.specs.Economy.{IsSwitch, IsTrueReason}
+use Rattle.front_core.proofs.AtTheBack.{switch_is_true}
 use Rattle.front_core.proofs.share.Share.make_current.Goals as goal
 
 pub state_call-requires-clause-may : goal.state_call-requires-clause-may
@@ -41,3 +44,13 @@ pub returns-in-Ok-state_call-clause-flushed : goal.returns-in-Ok-state_call-clau
 returns-in-Ok-state_call-clause-flushed g c =
     flushed_still (replaced_index c.args.self.now.state c.args.self.now.serials c.args.thread c.args.number) (face c.switch.new.self.core).pending (face c.state_call.new.self.core).pending c.state_call.ensures.pending
     (subst (λ n. IfSome (replaced_index c.args.self.now.state c.args.self.now.serials c.args.thread n) (λ i. (face c.switch.new.self.core).pending i ≡ [])) c.from.ensures c.in-Ok.ensures.flushed)
+
+pub returns-in-Ok-state_call-clause-at_back : goal.returns-in-Ok-state_call-clause-at_back
+returns-in-Ok-state_call-clause-at_back g c =
+    then_within 0 false false (IsTrueReason (face c.args.self.now.core) c.args.self.now.state c.args.self.now.serials c.args.thread (call.MakeCurrent c.args.number)) (omega arith) (λ on. on) (λ on. on) (λ on. on) (λ on. on) (λ batch is. switch_is_true (face c.args.self.now.core) c.args.self.now.state c.args.self.now.serials c.args.thread c.args.number batch (subst (λ n. IsSwitch c.args.self.now.state c.args.self.now.serials c.args.thread n batch) c.from.ensures is)) (no_batch (IsTrueReason (face c.args.self.now.core) c.args.self.now.state c.args.self.now.serials c.args.thread (call.MakeCurrent c.args.number)))
+    c.in-Ok.ensures.at_back c.in-Ok-state_call.ensures.at_back
+
+pub returns-in-Ok-clause-at_back : goal.returns-in-Ok-clause-at_back
+returns-in-Ok-clause-at_back g c =
+    then_within 0 false true (IsTrueReason (face c.args.self.now.core) c.args.self.now.state c.args.self.now.serials c.args.thread (call.MakeCurrent c.args.number)) (omega arith) (λ on. on) (λ on. on) (λ on. refl) (λ on. refl) (λ batch is. switch_is_true (face c.args.self.now.core) c.args.self.now.state c.args.self.now.serials c.args.thread c.args.number batch (subst (λ n. IsSwitch c.args.self.now.state c.args.self.now.serials c.args.thread n batch) c.from.ensures is)) (no_batch (IsTrueReason (face c.args.self.now.core) c.args.self.now.state c.args.self.now.serials c.args.thread (call.MakeCurrent c.args.number)))
+    c.in-Ok.ensures.at_back c.state_call.ensures.at_back

@@ -1,4 +1,4 @@
-use Rattle.std.proofs.Common.{arith, rules, ◌≡◌, ◌+◌, ◌<◌, refl, sym, ◌∙◌, ap, subst, w64, length, []}
+use Rattle.std.proofs.Common.{arith, rules, ◌≡◌, ◌+◌, ◌<◌, refl, sym, ◌∙◌, ap, subst, w64, length, [], false, true}
 use Rattle.cells.specs.Contents.{cells, Agrees}
 use Rattle.front_model.specs.Face.{Buffer, view}
 use Rattle.std.proofs.Math.Facts.{to_z-of_z}
@@ -9,6 +9,8 @@ use Rattle.back_core.specs.Link.{Link}
 use Rattle.front_moves.specs.Core.{face}
 use Rattle.front_core.specs.Share.{Gains}
 use Rattle.front_core.proofs.BufferCalls.{gained, InMap, Reach, in_map, has_reach, moved_none, agrees_none, agrees_length, length-cells, written_over}
+use Rattle.back_core.specs.Frame.{NoBatch}
+use Rattle.front_core.proofs.AtTheBack.{nothing_done}
 use Rattle.front_core.proofs.share.Share.map_read.Goals as goal
 
 pub unreachable-requires : goal.unreachable-requires
@@ -77,3 +79,11 @@ returns-in-Ok-read-clause-origin g c =
     let all : length c.read.new.out ≡ length c.in-Ok.bytes = agrees_length c.read.new.out _ c.in-Ok-read.ensures.bytes ∙ length-cells _ _ ∙ ap length c.as_mut_slice.ensures.value in
     subst (λ xs. Gains (g.L.BackLink.state c.args.link.now).mine (g.L.BackLink.state c.read.new.link).mine xs) (sym (written_over c.in-Ok.bytes c.read.new.out all))
     (gained (g.L.BackLink.state c.args.link.now).mine (g.L.BackLink.state c.read.new.link).mine had.0 _ c.read.new.out (ap (λ (s : Link). s.mine) had.1))
+
+pub returns-in_default-zeroed-clause-at_back : goal.returns-in_default-zeroed-clause-at_back
+returns-in_default-zeroed-clause-at_back g c =
+    nothing_done (g.L.BackLink.state c.args.link.now) (g.L.BackLink.told c.args.link.now) 0 false true NoBatch
+
+pub returns-then-length-eq0-clause-at_back : goal.returns-then-length-eq0-clause-at_back
+returns-then-length-eq0-clause-at_back g c =
+    nothing_done (g.L.BackLink.state c.args.link.now) (g.L.BackLink.told c.args.link.now) 0 false false NoBatch

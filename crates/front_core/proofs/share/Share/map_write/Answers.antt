@@ -1,11 +1,12 @@
-use Rattle.std.proofs.Common.{arith, rules, ◌≡◌, ◌+◌, ◌<◌, ◌≤◌, refl, sym, ◌∙◌, ap, subst, w64, length}
+use Rattle.std.proofs.Common.{arith, rules, ◌≡◌, ◌+◌, ◌<◌, ◌≤◌, refl, sym, ◌∙◌, ap, subst, w64, length, false, true}
 use Rattle.std.proofs.Math.Facts.{to_z-of_z}
 use Rattle.std.specs.Prelude.{unsigned_abs}
 use Rattle.gl_calls.specs.declared.call.Call.TheVariants as call
 use Rattle.gl_calls.specs.Words.{payload_len, payload_bytes}
 use Rattle.front_moves.specs.Core.{face}
-use Rattle.front_moves.specs.Uploads.{uploaded}
 use Rattle.front_core.proofs.BufferCalls.{InMap, Reach, in_map, has_reach, length-payload_bytes, wrote_as, wrote_nothing}
+use Rattle.back_core.specs.Frame.{NoBatch}
+use Rattle.front_core.proofs.AtTheBack.{nothing_done, due_as, though_stopped}
 use Rattle.front_core.proofs.share.Share.map_write.Goals as goal
 
 pub unreachable-requires : goal.unreachable-requires
@@ -57,12 +58,20 @@ returns-in-Ok-write-clause-done g c =
     (wrote_as (face c.args.self.now.core) (g.L.BackLink.state c.args.link.now) (g.L.BackLink.state c.write.new.link) c.in-Some.buffer _ (c.in-Some.place + unsigned_abs c.args.offset) _ (payload_bytes c.args.payload.now)
     (ap (λ n. c.in-Some.place + n) at_is) (c.as_slice-2.ensures ∙ c.in-Ok.ensures) c.in-Ok-write.ensures.moved)
 
-pub returns-in-Ok-write-clause-uploads : goal.returns-in-Ok-write-clause-uploads
-returns-in-Ok-write-clause-uploads g c =
-    let len_is : length c.as_slice-2.result.now ≡ payload_len c.args.payload.now = ap length (c.as_slice-2.ensures ∙ c.in-Ok.ensures) ∙ length-payload_bytes c.args.payload.now in
-    subst (λ n. uploaded (g.L.BackLink.state c.write.new.link).mine ≤ uploaded (g.L.BackLink.state c.args.link.now).mine + n) len_is c.write.ensures.uploads
+pub returns-in_default-bytes-clause-at_back : goal.returns-in_default-bytes-clause-at_back
+returns-in_default-bytes-clause-at_back g c =
+    nothing_done (g.L.BackLink.state c.args.link.now) (g.L.BackLink.told c.args.link.now) (payload_len c.args.payload.now) false true NoBatch
 
-pub returns-clause-uploads : goal.returns-clause-uploads
-returns-clause-uploads g c =
+pub returns-then-is_empty-clause-at_back : goal.returns-then-is_empty-clause-at_back
+returns-then-is_empty-clause-at_back g c =
+    nothing_done (g.L.BackLink.state c.args.link.now) (g.L.BackLink.told c.args.link.now) (payload_len c.args.payload.now) false false NoBatch
+
+pub returns-in-Ok-write-clause-at_back : goal.returns-in-Ok-write-clause-at_back
+returns-in-Ok-write-clause-at_back g c =
     let len_is : length c.as_slice-2.result.now ≡ payload_len c.args.payload.now = ap length (c.as_slice-2.ensures ∙ c.in-Ok.ensures) ∙ length-payload_bytes c.args.payload.now in
-    subst (λ n. uploaded (g.L.BackLink.state c.write.new.link).mine ≤ uploaded (g.L.BackLink.state c.args.link.now).mine + n) len_is c.write.ensures.uploads
+    due_as len_is c.in-Ok-write.ensures.at_back
+
+pub returns-clause-at_back : goal.returns-clause-at_back
+returns-clause-at_back g c =
+    let len_is : length c.as_slice-2.result.now ≡ payload_len c.args.payload.now = ap length (c.as_slice-2.ensures ∙ c.in-Ok.ensures) ∙ length-payload_bytes c.args.payload.now in
+    due_as len_is (though_stopped c.write.ensures.at_back)

@@ -1,12 +1,13 @@
-use Rattle.std.proofs.Common.{◌≡◌, ℕ, ◌+◌, ◌≤◌, List, refl, sym, ◌∙◌, ap, subst, length}
+use Rattle.std.proofs.Common.{◌≡◌, ℕ, ◌+◌, ◌≤◌, List, refl, sym, ◌∙◌, ap, subst, length, false, true}
 use Rattle.std.specs.Prelude.{Some, None}
 use Rattle.std.specs.Option.{option_map}
 use Rattle.gl_calls.specs.Words.{payload_bytes}
 use Rattle.front_moves.specs.Core.{face}
-use Rattle.front_moves.specs.Uploads.{uploaded}
-use Rattle.front_core.specs.Share.{data_len}
+use Rattle.front_core.specs.Economy.{data_len}
 use Rattle.front_core.proofs.BufferCalls.{length-payload_bytes}
 use Rattle.front_core.proofs.DataCalls.{on_ok, renewed_as, some_data}
+use Rattle.back_core.specs.Frame.{NoBatch}
+use Rattle.front_core.proofs.AtTheBack.{nothing_done, due_as}
 use Rattle.front_core.proofs.share.Share.new_store.Goals as goal
 
 pub returns-in-None-clause-moved : goal.returns-in-None-clause-moved
@@ -28,8 +29,12 @@ returns-in-Ok-clause-moved g c =
 pub returns-in-Err-clause-err : goal.returns-in-Err-clause-err
 returns-in-Err-clause-err g c = c.buffers_are_filled.ensures.owns (face c.args.self.now.core) (g.L.BackLink.state c.args.link.now) c.requires.holds
 
-pub returns-in-Ok-clause-uploads : goal.returns-in-Ok-clause-uploads
-returns-in-Ok-clause-uploads g c =
+pub returns-in-Ok-clause-at_back : goal.returns-in-Ok-clause-at_back
+returns-in-Ok-clause-at_back g c =
     let len_is : length c.as_slice.result.now ≡ data_len c.args.payload.now
     = ap length (c.as_slice.ensures ∙ c.in-Ok.ensures) ∙ length-payload_bytes c.in-Some.payload ∙ sym (ap data_len c.in-Some.is) in
-    subst (λ n. uploaded (g.L.BackLink.state c.store.new.link).mine ≤ uploaded (g.L.BackLink.state c.args.link.now).mine + n) len_is c.store.ensures.uploads
+    due_as len_is c.store.ensures.at_back
+
+pub returns-in-Err-clause-at_back : goal.returns-in-Err-clause-at_back
+returns-in-Err-clause-at_back g c =
+    nothing_done (g.L.BackLink.state c.args.link.now) (g.L.BackLink.told c.args.link.now) (data_len c.args.payload.now) false true NoBatch

@@ -1,10 +1,12 @@
-use Rattle.std.proofs.Common.{◌≡◌, subst, sym, ◌∙◌, ap}
+use Rattle.std.proofs.Common.{◌≡◌, false, true, subst, sym, ◌∙◌, ap}
 use Rattle.gl_model.specs.declared.state.GroupState.{GroupState}
 use Rattle.gl_model.specs.GroupEffect.{group_effect}
 use Rattle.gl_state.specs.Ended.{gone}
 use Rattle.front_moves.specs.Core.{face}
 use Rattle.front_moves.specs.Ending.{HasEnded}
 use Rattle.front_core.specs.Share.{IsCarriedOut}
+use Rattle.back_core.specs.Frame.{NoBatch}
+use Rattle.front_core.proofs.AtTheBack.{nothing_done}
 use Rattle.front_core.proofs.share.Share.state_call.Goals as goal
 
 pub returns-in-Some-clause-done : goal.returns-in-Some-clause-done
@@ -20,3 +22,6 @@ returns-in-Some-clause-done g c =
 
 pub returns-in-Err-clause-err : goal.returns-in-Err-clause-err
 returns-in-Err-clause-err g c = c.state_calls_come_to.ensures.owns (face c.args.self.now.core) (g.L.BackLink.state c.args.link.now) c.requires.may.backs.holds
+
+pub returns-in-Err-clause-at_back : goal.returns-in-Err-clause-at_back
+returns-in-Err-clause-at_back g c = nothing_done (g.L.BackLink.state c.args.link.now) (g.L.BackLink.told c.args.link.now) 0 false true NoBatch

@@ -1,0 +1,103 @@
+-- What a call may do at the back: how many bytes the host writes, whether it may wait, and which batches it may hand over.
+use Rattle.std.specs.Prelude.{◌≡◌, ℕ, ◌+◌, Bool, true, false, unsigned_abs, List, [], ◌∷◌, Option, Some, None, Contains}
+use Rattle.std.specs.Option.{option_map_or}
+use Rattle.formats.specs.Texel.{bytes_per_texel}
+use Rattle.formats.specs.Rows.{needed_length}
+use Rattle.gl_calls.specs.declared.call.Call.{Call}
+use Rattle.gl_calls.specs.declared.call.Call.TheVariants as call
+use Rattle.gl_calls.specs.declared.call.PixelSource.TheVariants as source
+use Rattle.gl_calls.specs.declared.payload.Payload.{Payload}
+use Rattle.gl_calls.specs.declared.reply.Entry.{Entry}
+use Rattle.gl_calls.specs.declared.words.BufferTarget.{BufferTarget}
+use Rattle.gl_calls.specs.Words.{payload_len}
+use Rattle.tables.specs.Table.{Entries}
+use Rattle.vk_types.specs.declared.batches.Batch.{Batch}
+use Rattle.vk_types.specs.declared.batches.Reason.TheVariants as reason
+use Rattle.gl_model.specs.declared.state.Context.{Context}
+use Rattle.gl_model.specs.declared.state.GroupState.{GroupState}
+use Rattle.gl_model.specs.GroupState.{opening_group}
+use Rattle.gl_model.specs.Bindings.{current_context, buffer_binding, image_of}
+use Rattle.gl_model.specs.Reached.{group_after}
+use Rattle.gl_model.specs.Refusal.{refusal}
+use Rattle.front_model.specs.Face.{Face}
+use Rattle.front_moves.specs.Reasons.{IsCross, IsFull}
+use Rattle.front_core.specs.Share.{current_index, replaced_index, replaced_by}
+
+-- the length of data, or of none
+abbrev pub data_len : Option Payload → ℕ
+data_len None = 0
+data_len (Some payload) = payload_len payload
+
+-- the bytes that an upload of a rectangle into the bound texture needs of its data
+abbrev pub needed_bytes : GroupState → Context → ℕ → ℕ → ℕ
+needed_bytes group context width height =
+    option_map_or (λ image. needed_length context.unpack (bytes_per_texel image.format) width height) (image_of group.textures context.texture) 0
+
+-- the bytes that are due for an accepted call: those of its data, and of an upload of texels those that it needs
+abbrev pub upload_due : GroupState → ℕ → Call → ℕ
+upload_due group thread (call.BufferData target size usage payload) = data_len payload
+upload_due group thread (call.BufferSubData target offset payload) = payload_len payload
+upload_due group thread (call.MapWrite target offset payload) = payload_len payload
+upload_due group thread (call.TexSubImage x y width height pixels kind (source.Client payload)) =
+    option_map_or (λ context. needed_bytes group context (unsigned_abs width) (unsigned_abs height)) (current_context group thread) 0
+upload_due group thread _ = 0
+
+-- the bytes that are due for a call: none where it is refused
+abbrev pub due_of : GroupState → ℕ → Call → ℕ
+due_of group thread asked = option_map_or (λ answer. 0) (refusal group thread asked) (upload_due group thread asked)
+
+-- the calls that may wait for the device where they are accepted
+abbrev pub may_wait : Call → Bool
+may_wait (call.MapBufferRange target offset len access) = true
+may_wait _ = false
+
+abbrev pub waits_of : GroupState → ℕ → Call → Bool
+waits_of group thread asked = option_map_or (λ answer. false) (refusal group thread asked) (may_wait asked)
+
+-- the targets whose buffers a call copies from or to on the device, or maps
+abbrev pub used_targets : Call → List BufferTarget
+used_targets (call.BufferSubData target offset payload) = target ∷ []
+used_targets (call.CopyBufferSubData from to read write size) = from ∷ to ∷ []
+used_targets (call.MapBufferRange target offset len access) = target ∷ []
+used_targets _ = []
+
+-- the call copies from or to this buffer, or maps it
+pub record IsUsedBy (group : GroupState) (thread : ℕ) (asked : Call) (b : ℕ) : Type 0 where
+  pub context : Context
+  pub target : BufferTarget
+  pub current : current_context group thread ≡ Some context
+  pub listed : Contains (used_targets asked) target
+  pub bound : buffer_binding context target ≡ Some b
+
+abbrev pub maps_a_buffer : Call → Bool
+maps_a_buffer (call.MapBufferRange target offset len access) = true
+maps_a_buffer _ = false
+
+-- what the context that is replaced had pending
+pub record IsSwitch (group : GroupState) (serials : Entries ℕ) (thread number : ℕ) (batch : Batch) : Type 0 where
+  pub replaced : replaced_index group serials thread number ≡ Some batch.index
+  pub for_reason : batch.reason ≡ reason.Switch
+
+-- The reason of a batch is true of the call that handed it over: the call replaces the batch's context; it maps a buffer in the
+-- batch's context; it uses a buffer that the batch of another context touches; or the batch is as long as one may get.
+pub data IsTrueReason (f : Face) (group : GroupState) (serials : Entries ℕ) (thread : ℕ) (asked : Call) (batch : Batch) : Type 0 where
+  switch : replaced_by group serials thread asked ≡ Some batch.index → batch.reason ≡ reason.Switch → IsTrueReason f group serials thread asked batch
+  read : maps_a_buffer asked ≡ true → current_index group serials thread ≡ Some batch.index → batch.reason ≡ reason.Read →
+      IsTrueReason f group serials thread asked batch
+  cross : (index b : ℕ) → current_index group serials thread ≡ Some index → IsUsedBy group thread asked b → IsCross f index b batch →
+      IsTrueReason f group serials thread asked batch
+  full : IsFull batch → IsTrueReason f group serials thread asked batch
+
+-- what an accepted call may hand over: batches whose reason is true of it
+pub record MayHandOver (f : Face) (group : GroupState) (serials : Entries ℕ) (thread : ℕ) (asked : Call) (batch : Batch) : Type 0 where
+  pub accepted : refusal group thread asked ≡ None
+  pub true_reason : IsTrueReason f group serials thread asked batch
+
+-- the bytes that are due over some entries from a state on, each call in the state before it
+abbrev pub due_from : GroupState → List Entry → ℕ
+due_from group [] = 0
+due_from group (e ∷ rest) = due_of group e.thread e.call + due_from (group_after group e) rest
+
+-- the bytes that are due over a history of the declared threads
+abbrev pub due_over : List ℕ → List Entry → ℕ
+due_over threads history = due_from (opening_group threads) history
