@@ -14,7 +14,7 @@ use Rattle.reply_text.specs.declared.history.GroupHistory.{GroupHistory}
 use Rattle.trace_run.specs.declared.saying.Said.{Said}
 use Rattle.trace_run.specs.declared.saying.Said.TheVariants as said
 use Rattle.trace_run.specs.Runs.{first_unbuilt}
-use Rattle.trace_run.specs.Once.{SpellsOnce, Gives, Ran, Answered, WasLost, IsRefusedAt, IsRefusal, Refused, IsWritten, WasCutOff, IsUnread, IsRunOf, IsSaid, Says, Puts, text_of, status_of, has_text, usage_line, MayAnswer, MayRefuse, MayRefuseLong}
+use Rattle.trace_run.specs.Once.{SpellsOnce, Gives, Ran, Answered, WasLost, IsRefusedAt, IsRefusal, Refused, IsWritten, WasCutOff, IsUnread, IsRunOf, IsSaid, Says, Puts, text_of, status_of, has_text, usage_line, MayAnswer, MayRefuse, MayRefuseLong, kind_of_long}
 
 -- a text that was put is said
 pub puts_said : {text : List ℕ} {good : Status} {taken taken_after : Option (List ℕ)} {faults faults_after : ℕ} {status : Status} (it : Said) → Puts text good taken taken_after faults faults_after status → text ≡ text_of it → good ≡ status_of it → has_text it ≡ true → Says it taken taken_after faults faults_after status
@@ -45,7 +45,14 @@ silent it (Says.whole e h a) is = absurd (no_silence it h (either it e is))
 silent it (Says.front e h rose n a) (inl is) = let wrong : WriteFault ≡ ReadFault = sym e ∙ is in absurd (cc)
 silent it (Says.front e h rose n a) (inr is) = let wrong : WriteFault ≡ Memory = sym e ∙ is in absurd (cc)
 silent it (Says.no_text e h same) is = same
-silent it (Says.no_memory e same) is = same
+silent it (Says.no_memory e not same) is = same
+
+-- the usage line needs no memory
+pub usage_alone : {taken taken_after : Option (List ℕ)} {faults faults_after : ℕ} {status : Status} (it : Said) → it ≡ said.Usage → Says it taken taken_after faults faults_after status → (status ≡ Usage) ⊎ (status ≡ WriteFault)
+usage_alone it is (Says.whole e h a) = inl (e ∙ ap status_of is)
+usage_alone it is (Says.front e h rose n a) = inr e
+usage_alone it is (Says.no_text e h same) = inl (e ∙ ap status_of is)
+usage_alone it is (Says.no_memory e not same) = absurd (not is)
 
 -- what came is all that was there
 whole_text : (text came : List ℕ) (left left_after : Option (List ℕ)) → left ≡ Some text → Consumes left left_after came → IsAtEnd left_after → came ≡ text
@@ -106,7 +113,7 @@ module _ (words : List (List ℕ)) (left left_after : Option (List ℕ)) (reads 
   spoke s it is fault memory (Says.whole e h a) = (sym e ∙ is, λ yes. a)
   spoke s it is fault memory (Says.front e h rose n a) = absurd (fault (sym is ∙ e))
   spoke s it is fault memory (Says.no_text e h same) = (sym e ∙ is, λ yes. absurd (no_yes (sym h ∙ yes)))
-  spoke s it is fault memory (Says.no_memory e same) = absurd (memory (sym is ∙ e))
+  spoke s it is fault memory (Says.no_memory e not same) = absurd (memory (sym is ∙ e))
 
   ok_from : (it : Said) → status_of it ≡ Ok → So it → Taken it → Answered left left_after taken taken_after journal
   ok_from (said.Replies groups) e so a = record { groups = groups.items; ran = so; written = a refl }
@@ -155,15 +162,15 @@ module _ (words : List (List ℕ)) (left left_after : Option (List ℕ)) (reads 
   pub read_fault : (it : Said) → So it → Spoken it → status ≡ ReadFault → Rose reads reads_after
   read_fault it so says is = read_from it (spoke ReadFault it is (λ e. cc) (λ e. cc) says).0 so
 
-  lost_from : (it : Said) → status_of it ≡ DeviceLost → So it → Taken it → Rose losses losses_after × WasLost left left_after taken taken_after
-  lost_from (said.Lost groups) e so a = (so.1, record { groups = groups.items; ran = so.0; written = a refl })
+  lost_from : (it : Said) → status_of it ≡ DeviceLost → So it → Taken it → WasLost left left_after taken taken_after losses losses_after
+  lost_from (said.Lost groups) e so a = record { groups = groups.items; ran = so; written = a refl }
   lost_from (said.Replies groups) e so a = absurd (cc)
   lost_from said.Usage e so a = absurd (cc)
   lost_from (said.Refused line kind) e so a = absurd (cc)
   lost_from said.ReadFault e so a = absurd (cc)
   lost_from said.Memory e so a = absurd (cc)
 
-  pub lost : (it : Said) → So it → Spoken it → status ≡ DeviceLost → Rose losses losses_after × WasLost left left_after taken taken_after
+  pub lost : (it : Said) → So it → Spoken it → status ≡ DeviceLost → WasLost left left_after taken taken_after losses losses_after
   lost it so says is = let sp = spoke DeviceLost it is (λ e. cc) (λ e. cc) says in lost_from it sp.0 so sp.1
 
   no_write_fault : (it : Said) → status_of it ≡ WriteFault → ⊥
@@ -174,26 +181,26 @@ module _ (words : List (List ℕ)) (left left_after : Option (List ℕ)) (reads 
   no_write_fault said.ReadFault e = cc
   no_write_fault said.Memory e = cc
 
-  written_of : (it : Said) → So it → has_text it ≡ true → IsWritten words left left_after (text_of it)
+  written_of : (it : Said) → So it → has_text it ≡ true → IsWritten words left left_after losses losses_after journal (text_of it)
   written_of said.Usage so has = IsWritten.usage so refl
   written_of (said.Refused line kind) so has = IsWritten.refusal line kind so refl
-  written_of (said.Replies groups) so has = IsWritten.replies groups.items so.ran refl
-  written_of (said.Lost groups) so has = IsWritten.lost groups.items so.0 refl
+  written_of (said.Replies groups) so has = IsWritten.replies groups.items so refl
+  written_of (said.Lost groups) so has = IsWritten.lost groups.items so refl
   written_of said.ReadFault so has = absurd (no_yes has)
   written_of said.Memory so has = absurd (no_yes has)
 
-  pub cut_off : (it : Said) → So it → Spoken it → status ≡ WriteFault → Rose faults faults_after × WasCutOff words left left_after taken taken_after
+  pub cut_off : (it : Said) → So it → Spoken it → status ≡ WriteFault → Rose faults faults_after × WasCutOff words left left_after taken taken_after losses losses_after journal
   cut_off it so (Says.whole e h a) is = absurd (no_write_fault it (sym e ∙ is))
   cut_off it so (Says.front e h rose n a) is = (rose, record { text = text_of it; is_written = written_of it so h; count = n; written = a })
   cut_off it so (Says.no_text e h same) is = absurd (no_write_fault it (sym e ∙ is))
-  cut_off it so (Says.no_memory e same) is = let wrong : Memory ≡ WriteFault = sym e ∙ is in absurd (cc)
+  cut_off it so (Says.no_memory e not same) is = let wrong : Memory ≡ WriteFault = sym e ∙ is in absurd (cc)
 
   -- any status that what is said may have, and want of memory, and a fault of the sink
   any : (P : Status → Type 0) (it : Said) → P (status_of it) → P WriteFault → P Memory → Spoken it → P status
   any P it own fault memory (Says.whole e h a) = subst P (sym e) own
   any P it own fault memory (Says.front e h rose n a) = subst P (sym e) fault
   any P it own fault memory (Says.no_text e h same) = subst P (sym e) own
-  any P it own fault memory (Says.no_memory e same) = subst P (sym e) memory
+  any P it own fault memory (Says.no_memory e not same) = subst P (sym e) memory
 
   refusal_of : (text : List ℕ) (line kind l k : ℕ) → left ≡ Some text → length text ≤ 67108864 → IsRefusedAt text line kind → IsRefusal left left_after l k → (l ≡ line) × (k ≡ kind)
   refusal_of text line kind l k is short why (came, consumes, inl so) =
@@ -210,14 +217,14 @@ module _ (words : List (List ℕ)) (left left_after : Option (List ℕ)) (reads 
   may_refuse said.Usage so text line kind is short spells why = absurd (so spells)
   may_refuse (said.Refused l k) so text line kind is short spells why = refusal_of text line kind l k is short why so
   may_refuse (said.Replies groups) so text line kind is short spells why = absurd (no_run text line kind groups.items is why so.ran)
-  may_refuse (said.Lost groups) so text line kind is short spells why = absurd (no_run text line kind groups.items is why so.0)
+  may_refuse (said.Lost groups) so text line kind is short spells why = absurd (no_run text line kind groups.items is why so.ran)
   may_refuse said.ReadFault so text line kind is short spells why = tt
   may_refuse said.Memory so text line kind is short spells why = tt
 
   pub refused : (it : Said) → So it → Spoken it → (text : List ℕ) (line kind : ℕ) → left ≡ Some text → length text ≤ 67108864 → SpellsOnce words → IsRefusedAt text line kind → MayRefuse line kind status
   refused it so says text line kind is short spells why = any (MayRefuse line kind) it (may_refuse it so text line kind is short spells why) tt tt says
 
-  long_refusal : (text : List ℕ) (l k : ℕ) → left ≡ Some text → 67108864 < length text → IsRefusal left left_after l k → (l ≡ 0) × (k ≡ 8)
+  long_refusal : (text : List ℕ) (l k : ℕ) → left ≡ Some text → 67108864 < length text → IsRefusal left left_after l k → (l ≡ 0) × (k ≡ kind_of_long)
   long_refusal text l k is long (came, consumes, inl so) = absurd (omega (arith, so.2, ap length (whole_text text came left left_after is consumes so.1)))
   long_refusal text l k is long (came, consumes, inr so) = (so.1, so.0)
 
@@ -229,7 +236,7 @@ module _ (words : List (List ℕ)) (left left_after : Option (List ℕ)) (reads 
   may_refuse_long said.Usage so text is long spells = absurd (so spells)
   may_refuse_long (said.Refused l k) so text is long spells = long_refusal text l k is long so
   may_refuse_long (said.Replies groups) so text is long spells = absurd (no_long_run text groups.items is long so.ran)
-  may_refuse_long (said.Lost groups) so text is long spells = absurd (no_long_run text groups.items is long so.0)
+  may_refuse_long (said.Lost groups) so text is long spells = absurd (no_long_run text groups.items is long so.ran)
   may_refuse_long said.ReadFault so text is long spells = tt
   may_refuse_long said.Memory so text is long spells = tt
 
@@ -256,8 +263,8 @@ module _ (words : List (List ℕ)) (left left_after : Option (List ℕ)) (reads 
 -- what was not run, and what a run has to say
 
 pub said_unread : (words : List (List ℕ)) (left left_after : Option (List ℕ)) (reads reads_after losses losses_after : ℕ) (journal : List Logged) (it : Said) →
-    IsUnread words left left_after reads reads_after it → IsSaid words left left_after reads reads_after losses losses_after journal it
-said_unread words left left_after reads reads_after losses losses_after journal said.Usage so = so
+    IsUnread left left_after reads reads_after it → IsSaid words left left_after reads reads_after losses losses_after journal it
+said_unread words left left_after reads reads_after losses losses_after journal said.Usage so = absurd so
 said_unread words left left_after reads reads_after losses losses_after journal (said.Refused line kind) so = so
 said_unread words left left_after reads reads_after losses losses_after journal (said.Replies groups) so = absurd so
 said_unread words left left_after reads reads_after losses losses_after journal (said.Lost groups) so = absurd so
@@ -269,8 +276,8 @@ pub said_run : (words : List (List ℕ)) (left left_after : Option (List ℕ)) (
 said_run words left left_after reads reads_after losses losses_after journal threads said.Usage gave so = absurd so
 said_run words left left_after reads reads_after losses losses_after journal threads (said.Refused line kind) gave so = absurd so
 said_run words left left_after reads reads_after losses losses_after journal threads (said.Replies groups) gave so =
-    record { ran = record { threads = threads; gave = gave; replies = so.0 }; all = so.1; destroyed = so.2 }
+    record { ran = record { threads = threads; gave = gave; replies = so.0 }; all = so.1; destroyed = so.2; went_well = so.3; uploads = so.4 }
 said_run words left left_after reads reads_after losses losses_after journal threads (said.Lost groups) gave so =
-    (record { threads = threads; gave = gave; replies = so.0 }, so.1)
+    record { ran = record { threads = threads; gave = gave; replies = so.0 }; rose = so.1 }
 said_run words left left_after reads reads_after losses losses_after journal threads said.ReadFault gave so = absurd so
 said_run words left left_after reads reads_after losses losses_after journal threads said.Memory gave so = tt

@@ -3,7 +3,7 @@ use Rattle.std.proofs.Common.{◌≡◌, ℕ, ◌≤◌, ◌<◌, ◌⊎◌, Lis
 use Rattle.std.specs.Prelude.{fold}
 use Rattle.std.specs.List.{All}
 use Rattle.std.proofs.lemmas.Bool.{cases_lt}
-use Rattle.std.proofs.lemmas.List.Elements.{All-head, All-tail}
+use Rattle.std.proofs.lemmas.List.Elements.{All-head, All-tail, All-append, All-weaker}
 use Rattle.std.proofs.lemmas.List.Sums.{fold-append}
 use Rattle.vk_types.specs.declared.batches.QueueSerial.{QueueSerial}
 use Rattle.resource_use.specs.Uses.{number_of}
@@ -13,6 +13,7 @@ use Rattle.back_core.specs.declared.back_event.BackEvent.TheVariants as event
 use Rattle.back_core.specs.Own.{batches_of}
 use Rattle.back_core.specs.Link.{Link}
 use Rattle.back_core.specs.History.{completed, own_part, link_after, link_of, opening}
+use Rattle.back_core.specs.Frame.{IsPartOf}
 use Rattle.back_core.specs.Run.{IsProgress}
 use Rattle.back_core.specs.Steps.{HasGoneOn, IsIdle, IsAllGiven}
 use Rattle.trace_run.specs.Runs.{LeavesNothing}
@@ -63,3 +64,22 @@ pub all_given : (h s : List BackEvent) (g : ℕ) → HasGoneOn h s → IsIdle s 
 all_given h s g gone idle nothing =
     let still : LeavesNothing (link_of s g) = nothing_still h s g gone nothing in
     record { given = still.none_lost; reached = reached_all s g still idle }
+
+-- the batches go on, and the group did all that was done still
+progress_part : (g : ℕ) (e : BackEvent) → IsProgress e → IsPartOf g e
+progress_part g (event.Created group id kind) bad = absurd bad
+progress_part g (event.Wrote group id at bytes) bad = absurd bad
+progress_part g (event.Enqueued batch) bad = absurd bad
+progress_part g event.Submitted step = refl
+progress_part g (event.Ran batch node) step = refl
+progress_part g (event.Retired serial) step = refl
+progress_part g (event.Fetched group id at bytes) bad = absurd bad
+progress_part g (event.Gave group id uses) bad = absurd bad
+progress_part g (event.Abandoned group id) bad = absurd bad
+progress_part g (event.Cleaned read destroyed) bad = absurd bad
+progress_part g event.Closing bad = absurd bad
+progress_part g (event.Stopped s) bad = absurd bad
+
+pub still_alone : (h s : List BackEvent) (g : ℕ) → HasGoneOn h s → All (IsPartOf g) h → All (IsPartOf g) s
+still_alone h s g gone alone =
+    subst (All (IsPartOf g)) (sym gone.is) (All-append (IsPartOf g) h gone.more alone (All-weaker IsProgress (IsPartOf g) (progress_part g) gone.more gone.progress))

@@ -1,11 +1,12 @@
 -- What a run of the program does with its source, its sink and its device.
-use Rattle.std.specs.Prelude.{◌≡◌, ◌⊎◌, ℕ, ◌<◌, ◌≤◌, List, [], ◌∷◌, ◌++◌, length, take, codes, Bool, true, false, Option, Some, None, Err}
+use Rattle.std.specs.Prelude.{◌≡◌, ◌≢◌, ◌⊎◌, ℕ, ◌<◌, ◌≤◌, List, [], ◌∷◌, ◌++◌, length, take, codes, Bool, true, false, Option, Some, None, Err}
 use Rattle.std.specs.Fmt.{decimal}
 use Rattle.std.specs.Io.KnownBytes.{Appends, Consumes, IsAtEnd}
 use Rattle.trace_io.specs.declared.status.Status.{Status}
 use Rattle.trace_io.specs.declared.status.Status.TheVariants.{Ok, Usage, Trace, ReadFault, WriteFault, DeviceLost, Memory}
 use Rattle.vk_device.specs.declared.logged.Logged.{Logged}
 use Rattle.vk_device.specs.Journal.{kind_of}
+use Rattle.back_core.specs.Frame.{host_bytes}
 use Rattle.faults.specs.Faults.{Rose}
 use Rattle.command_line.specs.declared.command.Command.TheVariants.{Once}
 use Rattle.command_line.specs.Commands as commands
@@ -16,7 +17,7 @@ use Rattle.reply_text.specs.declared.history.Tail.TheVariants.{End, Lost}
 use Rattle.reply_text.specs.Replies.{replies_text}
 use Rattle.trace_run.specs.declared.saying.Said.{Said}
 use Rattle.trace_run.specs.declared.saying.Said.TheVariants as said
-use Rattle.trace_run.specs.Runs.{first_unbuilt, AreReplies, AnswerAll}
+use Rattle.trace_run.specs.Runs.{first_unbuilt, AreReplies, AnswerAll, WentWell, due_in}
 
 -- the words of the command that is served
 abbrev pub SpellsOnce : List (List ℕ) → Type 0
@@ -45,11 +46,14 @@ pub record Ran (left left_after : Option (List ℕ)) (groups : List GroupHistory
   pub gave : Gives left left_after threads
   pub replies : AreReplies threads groups
 
--- all lines of the trace were answered, and every object was destroyed
+-- All lines of the trace were answered, no call on the device failed, the host wrote no more bytes than were due, and every object was
+-- destroyed.
 pub record RanWhole (left left_after : Option (List ℕ)) (groups : List GroupHistory) (journal : List Logged) : Type 0 where
   pub ran : Ran left left_after groups
   pub all : AnswerAll ran.threads groups
   pub destroyed : (id : ℕ) → kind_of journal id ≡ None
+  pub went_well : WentWell journal
+  pub uploads : host_bytes journal ≤ due_in groups
 
 -- All lines of the trace were answered, the sink took the replies, and every object was destroyed.
 pub record Answered (left left_after taken taken_after : Option (List ℕ)) (journal : List Logged) : Type 0 where
@@ -57,51 +61,69 @@ pub record Answered (left left_after taken taken_after : Option (List ℕ)) (jou
   pub ran : RanWhole left left_after groups journal
   pub written : Appends taken taken_after (replies_text groups End)
 
--- The device was lost. The sink took the replies so far, and then that it was lost.
-pub record WasLost (left left_after taken taken_after : Option (List ℕ)) : Type 0 where
-  pub groups : List GroupHistory
+-- some first lines of the trace were answered, and then the device was lost
+pub record RanUntilLost (left left_after : Option (List ℕ)) (losses losses_after : ℕ) (groups : List GroupHistory) : Type 0 where
   pub ran : Ran left left_after groups
+  pub rose : Rose losses losses_after
+
+-- The device was lost. The sink took the replies so far, and then that it was lost.
+pub record WasLost (left left_after taken taken_after : Option (List ℕ)) (losses losses_after : ℕ) : Type 0 where
+  pub groups : List GroupHistory
+  pub ran : RanUntilLost left left_after losses losses_after groups
   pub written : Appends taken taken_after (replies_text groups Lost)
+
+-- the kinds of refusal beside the faults of a line: too many bytes came, and the trace is none that is served
+abbrev pub kind_of_long : ℕ
+kind_of_long = 8
+
+abbrev pub kind_of_unbuilt : ℕ
+kind_of_unbuilt = 10
 
 -- where and why a text is refused: its first fault, or the first line of its trace that is not built
 pub data IsRefusedAt (text : List ℕ) (line kind : ℕ) : Type 0 where
   fault : trace_of text ≡ Err (record { line = line; kind = kind }) → IsRefusedAt text line kind
-  unbuilt : (threads : List Plan) → Spells text threads → first_unbuilt threads ≡ Some line → kind ≡ 10 → IsRefusedAt text line kind
+  unbuilt : (threads : List Plan) → Spells text threads → first_unbuilt threads ≡ Some line → kind ≡ kind_of_unbuilt → IsRefusedAt text line kind
 
 -- why what came is refused: so is its text, or more than 67,108,864 bytes came
 abbrev pub IsRefusal : (left left_after : Option (List ℕ)) (line kind : ℕ) → Type 0
 IsRefusal left left_after line kind = (text : List ℕ) × Consumes left left_after text
-    × ((IsRefusedAt text line kind × IsAtEnd left_after × (length text ≤ 67108864)) ⊎ ((kind ≡ 8) × (line ≡ 0) × (67108864 < length text)))
+    × ((IsRefusedAt text line kind × IsAtEnd left_after × (length text ≤ 67108864))
+    ⊎ ((kind ≡ kind_of_long) × (line ≡ 0) × (67108864 < length text)))
 
 -- the text was refused, and the sink was told so
 pub record Refused (left left_after taken taken_after : Option (List ℕ)) (line kind : ℕ) : Type 0 where
   pub refusal : IsRefusal left left_after line kind
   pub written : Appends taken taken_after (refused_text line kind)
 
--- a text that a run writes: the usage line, a refusal, the replies to all lines, or those until the device was lost
-pub data IsWritten (words : List (List ℕ)) (left left_after : Option (List ℕ)) (text : List ℕ) : Type 0 where
-  usage : ¬ SpellsOnce words → text ≡ usage_line → IsWritten words left left_after text
-  refusal : (line kind : ℕ) → IsRefusal left left_after line kind → text ≡ refused_text line kind → IsWritten words left left_after text
-  replies : (groups : List GroupHistory) → Ran left left_after groups → text ≡ replies_text groups End → IsWritten words left left_after text
-  lost : (groups : List GroupHistory) → Ran left left_after groups → text ≡ replies_text groups Lost → IsWritten words left left_after text
+-- a text that a run has to write: the usage line, a refusal, the replies to all lines, or those until the device was lost
+pub data IsWritten (words : List (List ℕ)) (left left_after : Option (List ℕ)) (losses losses_after : ℕ) (journal : List Logged)
+    (text : List ℕ) : Type 0 where
+  usage : ¬ SpellsOnce words → text ≡ usage_line → IsWritten words left left_after losses losses_after journal text
+  refusal : (line kind : ℕ) → IsRefusal left left_after line kind → text ≡ refused_text line kind →
+      IsWritten words left left_after losses losses_after journal text
+  replies : (groups : List GroupHistory) → RanWhole left left_after groups journal → text ≡ replies_text groups End →
+      IsWritten words left left_after losses losses_after journal text
+  lost : (groups : List GroupHistory) → RanUntilLost left left_after losses losses_after groups → text ≡ replies_text groups Lost →
+      IsWritten words left left_after losses losses_after journal text
 
 -- the sink took some front of such a text
-pub record WasCutOff (words : List (List ℕ)) (left left_after taken taken_after : Option (List ℕ)) : Type 0 where
+pub record WasCutOff (words : List (List ℕ)) (left left_after taken taken_after : Option (List ℕ)) (losses losses_after : ℕ)
+    (journal : List Logged) : Type 0 where
   pub text : List ℕ
-  pub is_written : IsWritten words left left_after text
+  pub is_written : IsWritten words left left_after losses losses_after journal text
   pub count : ℕ
   pub written : Appends taken taken_after (take count text)
 
 -- What is said
 
--- why nothing was run is so
-abbrev pub IsUnread : (words : List (List ℕ)) (left left_after : Option (List ℕ)) (reads reads_after : ℕ) → Said → Type 0
-IsUnread words left left_after reads reads_after said.Usage = ¬ SpellsOnce words
-IsUnread words left left_after reads reads_after (said.Refused line kind) = IsRefusal left left_after line kind
-IsUnread words left left_after reads reads_after (said.Replies groups) = ⊥
-IsUnread words left left_after reads reads_after (said.Lost groups) = ⊥
-IsUnread words left left_after reads reads_after said.ReadFault = Rose reads reads_after
-IsUnread words left left_after reads reads_after said.Memory = Unit {0}
+-- why no trace came is so
+abbrev pub IsUnread : (left left_after : Option (List ℕ)) (reads reads_after : ℕ) → Said → Type 0
+IsUnread left left_after reads reads_after said.Usage = ⊥
+IsUnread left left_after reads reads_after (said.Refused line kind) = IsRefusal left left_after line kind
+IsUnread left left_after reads reads_after (said.Replies groups) = ⊥
+IsUnread left left_after reads reads_after (said.Lost groups) = ⊥
+IsUnread left left_after reads reads_after said.ReadFault = Rose reads reads_after
+IsUnread left left_after reads reads_after said.Memory = Unit {0}
 
 -- what a run of these threads has to say is so
 abbrev pub IsRunOf : (threads : List Plan) (losses losses_after : ℕ) (journal : List Logged) → Said → Type 0
@@ -109,6 +131,7 @@ IsRunOf threads losses losses_after journal said.Usage = ⊥
 IsRunOf threads losses losses_after journal (said.Refused line kind) = ⊥
 IsRunOf threads losses losses_after journal (said.Replies groups) =
     AreReplies threads groups.items × AnswerAll threads groups.items × ((id : ℕ) → kind_of journal id ≡ None)
+    × WentWell journal × (host_bytes journal ≤ due_in groups.items)
 IsRunOf threads losses losses_after journal (said.Lost groups) = AreReplies threads groups.items × Rose losses losses_after
 IsRunOf threads losses losses_after journal said.ReadFault = ⊥
 IsRunOf threads losses losses_after journal said.Memory = Unit {0}
@@ -118,7 +141,7 @@ abbrev pub IsSaid : (words : List (List ℕ)) (left left_after : Option (List �
 IsSaid words left left_after reads reads_after losses losses_after journal said.Usage = ¬ SpellsOnce words
 IsSaid words left left_after reads reads_after losses losses_after journal (said.Refused line kind) = IsRefusal left left_after line kind
 IsSaid words left left_after reads reads_after losses losses_after journal (said.Replies groups) = RanWhole left left_after groups.items journal
-IsSaid words left left_after reads reads_after losses losses_after journal (said.Lost groups) = Ran left left_after groups.items × Rose losses losses_after
+IsSaid words left left_after reads reads_after losses losses_after journal (said.Lost groups) = RanUntilLost left left_after losses losses_after groups.items
 IsSaid words left left_after reads reads_after losses losses_after journal said.ReadFault = Rose reads reads_after
 IsSaid words left left_after reads reads_after losses losses_after journal said.Memory = Unit {0}
 
@@ -153,12 +176,12 @@ pub data Puts (text : List ℕ) (good : Status) (taken taken_after : Option (Lis
   some : status ≡ WriteFault → Rose faults faults_after → (n : ℕ) → Appends taken taken_after (take n text) → Puts text good taken taken_after faults faults_after status
 
 -- What the sink took of it, and the status: the whole text, some front of it where a fault of the sink was counted, or
--- nothing where there is no text or no memory for it.
+-- nothing where there is no text or no memory for it. The usage line takes none.
 pub data Says (it : Said) (taken taken_after : Option (List ℕ)) (faults faults_after : ℕ) (status : Status) : Type 0 where
   whole : status ≡ status_of it → has_text it ≡ true → Appends taken taken_after (text_of it) → Says it taken taken_after faults faults_after status
   front : status ≡ WriteFault → has_text it ≡ true → Rose faults faults_after → (n : ℕ) → Appends taken taken_after (take n (text_of it)) → Says it taken taken_after faults faults_after status
   no_text : status ≡ status_of it → has_text it ≡ false → taken_after ≡ taken → Says it taken taken_after faults faults_after status
-  no_memory : status ≡ Memory → taken_after ≡ taken → Says it taken taken_after faults faults_after status
+  no_memory : status ≡ Memory → it ≢ said.Usage → taken_after ≡ taken → Says it taken taken_after faults faults_after status
 
 -- How a run may end
 
@@ -174,7 +197,7 @@ MayRefuse line kind DeviceLost = ⊥
 
 -- how a run may end on a text that is too long
 abbrev pub MayRefuseLong : Status → Type 0
-MayRefuseLong (Trace l k) = (l ≡ 0) × (k ≡ 8)
+MayRefuseLong (Trace l k) = (l ≡ 0) × (k ≡ kind_of_long)
 MayRefuseLong ReadFault = Unit {0}
 MayRefuseLong WriteFault = Unit {0}
 MayRefuseLong Memory = Unit {0}

@@ -1,21 +1,26 @@
 -- What a run answers: the traces that are served, and the replies to them.
-use Rattle.std.specs.Prelude.{◌≡◌, ℕ, ◌<◌, ◌≤◌, IsSome, List, [], ◌∷◌, length, map, take, Option, Some, None, if◌then◌else◌}
+use Rattle.std.specs.Prelude.{◌≡◌, ℕ, ◌<◌, ◌≤◌, IsSome, List, [], ◌∷◌, length, map, take, Option, Some, None, if◌then◌else◌, ◌+◌, Bool, true, false}
 use Rattle.std.specs.List.{All}
 use Rattle.gl_calls.specs.declared.call.Call.{Call}
 use Rattle.gl_calls.specs.declared.reply.Entry.{Entry}
 use Rattle.gl_model.specs.Legal.{IsLegal}
 use Rattle.gl_model.specs.Sizes.{HasItsData}
+use Rattle.vk_types.specs.declared.batches.Batch.{Batch}
 use Rattle.vk_types.specs.declared.batches.QueueSerial.{QueueSerial}
+use Rattle.vk_device.specs.declared.logged.Logged.{Logged}
 use Rattle.resource_use.specs.Uses.{number_of}
 use Rattle.submit_queue.specs.Histories.{last_number}
 use Rattle.back_core.specs.declared.back_event.BackEvent.{BackEvent}
 use Rattle.back_core.specs.Own.{batches_of}
 use Rattle.back_core.specs.Link.{Link}
-use Rattle.back_core.specs.History.{link_of, outside_of}
+use Rattle.back_core.specs.History.{link_of}
+use Rattle.back_core.specs.Frame.{IsPartOf, IsGoing, ActsAtBack}
+use Rattle.back_core.specs.Run.{IsRun, journal_of}
 use Rattle.trace_text.specs.declared.trace.Line.{Line}
 use Rattle.trace_text.specs.Reading.{Plan}
 use Rattle.reply_text.specs.declared.history.GroupHistory.{GroupHistory}
 use Rattle.front_core.specs.Share.{is_built}
+use Rattle.front_core.specs.Economy.{due_over}
 
 -- Which traces are served
 
@@ -83,8 +88,32 @@ pub record LeavesNothing (s : Link) : Type 0 where
   pub none_lost : (id : ℕ) → IsSome (s.kinds id) → IsSome (s.given id)
   pub given : (id index : ℕ) (uses : List QueueSerial) → s.given id ≡ Some uses → number_of uses index ≤ last_number (batches_of s.mine) index
 
--- one group did all that was done at the back, and left nothing
+-- One group did all that was done at the back, and left nothing. No stop came.
 pub record IsLeft (history : List BackEvent) : Type 0 where
   pub group : ℕ
-  pub alone : outside_of history group ≡ []
+  pub alone : All (IsPartOf group) history
   pub nothing : LeavesNothing (link_of history group)
+  pub going : IsGoing (Some history)
+
+-- any batch may be handed over
+abbrev pub AnyBatch : Batch → Type 0
+AnyBatch batch = Unit {0}
+
+-- What the calls of a thread did at the back, by what a link shows: where no stop came, the host wrote no more bytes than are due for
+-- the entries.
+pub record RanAtBack {L : Type 0} (state : L → Link) (told : L → Option (List BackEvent)) (old new : L) (entries : List Entry) (stops : Bool) : Type 0 where
+  pub due : ℕ
+  pub at_back : ActsAtBack state told old new due true stops AnyBatch
+  pub uploads : stops ≡ false → due ≤ due_over (0 ∷ []) entries
+
+-- What happened at the back of a device with this journal: in it no stop stands, so no call on the device failed.
+pub record WentWell (journal : List Logged) : Type 0 where
+  pub history : List BackEvent
+  pub run : IsRun history
+  pub journal_is : journal ≡ journal_of history
+  pub going : IsGoing (Some history)
+
+-- the bytes that are due for the entries of thread 0 in some groups
+abbrev pub due_in : List GroupHistory → ℕ
+due_in [] = 0
+due_in (history ∷ groups) = due_over (0 ∷ []) history.entries.items + due_in groups

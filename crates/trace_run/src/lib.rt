@@ -12,4 +12,4 @@ mod once;
 mod run;
 mod saying;
 
-pub use once::{run_once, seed_of};
+pub use once::{is_threads, run_once, seed_of};

@@ -1,5 +1,5 @@
 // The command `once`, from the words to the status.
-ghost use Rattle.std.specs.Prelude.{◌≡◌, ◌≢◌, ◌≤◌, ◌<◌, ◌⊎◌, ℕ, Bool, List, [], length, map, Some, None, false, IfOk, IfErr, MatchOption};
+ghost use Rattle.std.specs.Prelude.{◌≡◌, ◌≢◌, ◌≤◌, ◌<◌, ◌⊎◌, ◌↔◌, ℕ, Bool, IsTrue, List, [], length, map, Some, None, false, IfOk, IfErr, MatchOption};
 ghost use Rattle.std.specs.List.{All};
 ghost use Rattle.std.specs.String.{string_bytes};
 ghost use Rattle.std.specs.Io.KnownBytes.{Appends};
@@ -25,6 +25,11 @@ use vk_device::{Device, devices_stay_in_order};
 /// The most bytes of a text.
 const LIMIT: usize = 67_108_864;
 
+// The kinds of refusal beside the faults of a line: too many bytes came, and the trace is none that is served.
+const TOO_LONG: u8 = 8;
+
+const UNBUILT: u8 = 10;
+
 /// Serves the command `once --seed N`: reads a trace from the source, runs it on the device, writes the replies into
 /// the sink, and hands the device back. At status 6 the replies so far are written, at status 4 and 7 nothing.
 pub fn run_once<S: Source, K: Sink, D: Device>(
@@ -39,15 +44,16 @@ pub fn run_once<S: Source, K: Sink, D: Device>(
     ensures usage { result.0 ≡ Status.Usage → ¬ SpellsOnce (map string_bytes words.now) }
     ensures usage_line { result.0 ≡ Status.Usage → Appends (K.taken sink.old) (K.taken sink.new) usage_line }
     ensures served { SpellsOnce (map string_bytes words.now) → result.0 ≢ Status.Usage }
+    ensures unserved { ¬ SpellsOnce (map string_bytes words.now) → (result.0 ≡ Status.Usage) ⊎ (result.0 ≡ Status.WriteFault) }
+    ensures untouched { ¬ SpellsOnce (map string_bytes words.now) → (source.new ≡ source.old) × (result.1 ≡ device) }
     ensures trace { (line kind : ℕ) → result.0 ≡ Status.Trace line kind → Refused (S.left source.old) (S.left source.new) (K.taken sink.old) (K.taken sink.new) line kind }
     ensures refused { (text : List ℕ) (line kind : ℕ) → S.left source.old ≡ Some text → length text ≤ 67108864 → SpellsOnce (map string_bytes words.now) → IsRefusedAt text line kind → MayRefuse line kind result.0 }
     ensures too_long { (text : List ℕ) → S.left source.old ≡ Some text → 67108864 < length text → SpellsOnce (map string_bytes words.now) → MayRefuseLong result.0 }
     ensures answered { (text : List ℕ) (threads : List Plan) → S.left source.old ≡ Some text → SpellsOnce (map string_bytes words.now) → Spells text threads → first_unbuilt threads ≡ None → MayAnswer result.0 }
     ensures read_fault { result.0 ≡ Status.ReadFault → Rose (S.faults source.old) (S.faults source.new) }
     ensures write_fault { result.0 ≡ Status.WriteFault → Rose (K.faults sink.old) (K.faults sink.new) }
-    ensures cut_off { result.0 ≡ Status.WriteFault → WasCutOff (map string_bytes words.now) (S.left source.old) (S.left source.new) (K.taken sink.old) (K.taken sink.new) }
-    ensures lost { result.0 ≡ Status.DeviceLost → Rose (D.faults device) (D.faults result.1) }
-    ensures lost_text { result.0 ≡ Status.DeviceLost → WasLost (S.left source.old) (S.left source.new) (K.taken sink.old) (K.taken sink.new) }
+    ensures cut_off { result.0 ≡ Status.WriteFault → WasCutOff (map string_bytes words.now) (S.left source.old) (S.left source.new) (K.taken sink.old) (K.taken sink.new) (D.faults device) (D.faults result.1) (D.journal result.1) }
+    ensures lost { result.0 ≡ Status.DeviceLost → WasLost (S.left source.old) (S.left source.new) (K.taken sink.old) (K.taken sink.new) (D.faults device) (D.faults result.1) }
     ensures silent { (result.0 ≡ Status.ReadFault) ⊎ (result.0 ≡ Status.Memory) → K.taken sink.new ≡ K.taken sink.old }
     ensures clean { IsClean (D.journal result.1) }
 {
@@ -64,27 +70,34 @@ fn outcome<S: Source, D: Device>(
 ) -> (Said, D)
     requires { D.journal device ≡ [] }
     ensures said { IsSaid (map string_bytes words.now) (S.left source.old) (S.left source.new) (S.faults source.old) (S.faults source.new) (D.faults device) (D.faults result.1) (D.journal result.1) result.0 }
+    ensures unserved { ¬ SpellsOnce (map string_bytes words.now) → result.0 ≡ Said.Usage }
+    ensures untouched { ¬ SpellsOnce (map string_bytes words.now) → (source.new ≡ source.old) × (result.1 ≡ device) }
     ensures clean { IsClean (D.journal result.1) }
 {
     devices_stay_in_order::<D>();
-    match trace_in(alloc, words, source) {
-        Ok(trace) => run(alloc, device, &trace.threads),
-        Err(said) => (said, device),
+    match seed_in(words) {
+        None => (Said::Usage, device),
+        Some(_) => match trace_in(alloc, source) {
+            Ok(trace) => run(alloc, device, &trace.threads),
+            Err(said) => (said, device),
+        },
     }
 }
 
 // The trace that is to be run, or what there is to say in its place.
-fn trace_in<S: Source>(alloc: Global, words: &[String], source: &mut S) -> Result<Trace, Said>
+fn trace_in<S: Source>(alloc: Global, source: &mut S) -> Result<Trace, Said>
     ensures gives { IfOk result (λ trace. Gives (S.left source.old) (S.left source.new) (map plan trace.threads.items)) }
     ensures sound { IfOk result (λ trace. All IsSound (map plan trace.threads.items)) }
-    ensures unread { IfErr result (λ said. IsUnread (map string_bytes words.now) (S.left source.old) (S.left source.new) (S.faults source.old) (S.faults source.new) said) }
+    ensures unread { IfErr result (λ said. IsUnread (S.left source.old) (S.left source.new) (S.faults source.old) (S.faults source.new) said) }
 {
-    if seed_in(words).is_none() {
-        return Err(Said::Usage);
-    }
     let text = match read_all(alloc, source, LIMIT) {
         Ok(text) => text,
-        Err(ReadStop::TooLong) => return Err(Said::Refused { line: 0, kind: 8 }),
+        Err(ReadStop::TooLong) => {
+            return Err(Said::Refused {
+                line: 0,
+                kind: TOO_LONG,
+            });
+        }
         Err(ReadStop::Failed) => return Err(Said::ReadFault),
         Err(ReadStop::Memory) => return Err(Said::Memory),
     };
@@ -94,7 +107,10 @@ fn trace_in<S: Source>(alloc: Global, words: &[String], source: &mut S) -> Resul
         Err(ParseStop::Memory) => return Err(Said::Memory),
     };
     match built::first_unbuilt(&trace.threads) {
-        Some(line) => Err(Said::Refused { line, kind: 10 }),
+        Some(line) => Err(Said::Refused {
+            line,
+            kind: UNBUILT,
+        }),
         None => Ok(trace),
     }
 }
@@ -111,15 +127,29 @@ fn seed_in(words: &[String]) -> Option<u64>
     }
 }
 
-/// The number N of the words of a command `once --seed N`, with a summary or without, and 0 of any others.
+/// The number N of a command `once --seed N`, with a summary or without, or `gen N`, and 0 of any other words.
 pub fn seed_of(words: &[String]) -> u64
     ensures once { (seed : ℕ) (summary : Bool) → commands.Spells (map string_bytes words.now) (Command.Once seed summary) → result ≡ seed }
-    ensures other { ((seed : ℕ) (summary : Bool) → ¬ commands.Spells (map string_bytes words.now) (Command.Once seed summary)) → result ≡ 0 }
+    ensures generated { (number : ℕ) → commands.Spells (map string_bytes words.now) (Command.Gen number) → result ≡ number }
+    ensures threads { (workers : ℕ) → commands.Spells (map string_bytes words.now) (Command.Threads workers) → result ≡ 0 }
+    ensures none { ((command : Command) → ¬ commands.Spells (map string_bytes words.now) command) → result ≡ 0 }
 {
     match command_of(words) {
         Some(Command::Once { seed, .. }) => seed,
+        Some(Command::Gen { number }) => number,
         Some(Command::Threads { .. }) => 0,
-        Some(Command::Gen { .. }) => 0,
         None => 0,
+    }
+}
+
+/// Whether the words are those of a command `threads --workers N`.
+pub fn is_threads(words: &[String]) -> bool
+    ensures { IsTrue result ↔ ((workers : ℕ) × commands.Spells (map string_bytes words.now) (Command.Threads workers)) }
+{
+    match command_of(words) {
+        Some(Command::Threads { .. }) => true,
+        Some(Command::Once { .. }) => false,
+        Some(Command::Gen { .. }) => false,
+        None => false,
     }
 }

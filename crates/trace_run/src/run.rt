@@ -1,21 +1,26 @@
 // The calls of a trace, answered over a device.
-ghost use Rattle.std.specs.Prelude.{◌≡◌, ◌<◌, ℕ, [], ◌∷◌, length, map, None, IsOk, OnOk, OnErr};
+ghost use Rattle.std.specs.Prelude.{◌≡◌, ◌<◌, ◌≤◌, ℕ, [], ◌∷◌, length, map, Some, None, is_err, IsOk, OnOk, OnErr};
 ghost use Rattle.std.specs.List.{All};
 ghost use Rattle.vk_device.specs.Faults.{HasCause};
 ghost use Rattle.vk_device.specs.Journal.{kind_of, IsClean};
 ghost use Rattle.gl_model.specs.Sizes.{HasItsData};
 ghost use Rattle.back_core.specs.Run.{journal_of};
+ghost use Rattle.back_core.specs.Frame.{IsGoing, host_bytes};
 ghost use Rattle.front_model.specs.Stands.{Owns};
 ghost use Rattle.front_moves.specs.Core.{face};
 ghost use Rattle.front_moves.specs.Ending.{HasClosed};
 ghost use Rattle.front_core.specs.Front.{FrontStands};
+ghost use Rattle.front_core.specs.Economy.{due_over};
 ghost use Rattle.trace_text.specs.Reading.{plan};
-ghost use Rattle.trace_run.specs.Runs.{IsSound, AreAnswersTo, IsServed, IsLeft, LeavesNothing, first_unbuilt, unbuilt_line};
+ghost use Rattle.trace_run.specs.Runs.{IsSound, AreAnswersTo, IsServed, IsLeft, LeavesNothing, first_unbuilt, unbuilt_line, RanAtBack, WentWell};
 ghost use Rattle.trace_run.specs.Once.{IsRunOf};
 
 use crate::saying::Said;
-use back_core::{Back, BackLink, Direct, calls_stay_inside, what_a_group_sees};
-use front_core::Front;
+use back_core::{
+    Back, BackLink, Direct, backs_keep_going, cleanups_stay_whole, runs_of_one_group,
+    what_a_group_sees,
+};
+use front_core::{Front, dues_grow};
 use gl_calls::Entry;
 use reply_text::GroupHistory;
 use std::alloc::Global;
@@ -78,12 +83,15 @@ fn serve<D: Device>(
     ensures answers { AreAnswersTo lines.now result.1.items }
     ensures all { OnOk result.0 (length result.1.items ≡ length lines.now) }
     ensures destroyed { OnOk result.0 ((id : ℕ) → kind_of (D.journal result.2) id ≡ None) }
+    ensures went_well { OnOk result.0 (WentWell (D.journal result.2)) }
+    ensures uploads { OnOk result.0 (host_bytes (D.journal result.2) ≤ due_over (0 ∷ []) result.1.items) }
     ensures cause { HasCause (D.faults device) (D.faults result.2) result.0 }
     ensures clean { IsClean (D.journal result.2) }
 {
     devices_stay_in_order::<D>();
     what_a_group_sees();
-    calls_stay_inside();
+    backs_keep_going();
+    runs_of_one_group();
     let back = match Back::new(alloc, device) {
         Ok(back) => back,
         Err(device) => return (Err(Stop::Memory), Vec::new(alloc), device),
@@ -104,9 +112,13 @@ fn end<D: Device>(back: &mut Back<D>, answer: Result<(), Stop>) -> Result<(), St
     requires left { OnOk answer (IsLeft back.old.history) }
     ensures answered { OnOk result (IsOk answer) }
     ensures destroyed { OnOk result ((id : ℕ) → kind_of (journal_of back.new.history) id ≡ None) }
+    ensures going { OnOk result (IsGoing (Some back.new.history)) }
+    ensures written { OnOk result (host_bytes (journal_of back.new.history) ≡ host_bytes (journal_of back.old.history)) }
     ensures cause { (first : ℕ) → HasCause first (D.faults back.old.device) answer → HasCause first (D.faults back.new.device) result }
 {
-    calls_stay_inside();
+    backs_keep_going();
+    cleanups_stay_whole();
+    runs_of_one_group();
     answer?;
     back.settle_all()?;
     back.clean_all()?;
@@ -127,7 +139,7 @@ fn answer_lines<L: BackLink>(
     ensures all { OnOk result.0 (length result.1.items ≡ length lines.now) }
     ensures left { OnOk result.0 (LeavesNothing (L.state link.new)) }
     ensures cause { HasCause (L.faults link.old) (L.faults link.new) result.0 }
-    ensures outside { L.outside link.new ≡ L.outside link.old }
+    ensures at_back { RanAtBack L.state L.told link.old link.new result.1.items (is_err result.0) }
 {
     let mut front = front;
     let answer = answer_and_close(&mut front, link, lines);
@@ -150,7 +162,7 @@ fn answer_and_close<L: BackLink>(
     ensures closed { OnOk result (HasClosed (face front.new.core) (L.state link.new)) }
     ensures owns { Owns (face front.new.core).objects (L.state link.new) }
     ensures cause { HasCause (L.faults link.old) (L.faults link.new) result }
-    ensures outside { L.outside link.new ≡ L.outside link.old }
+    ensures at_back { RanAtBack L.state L.told link.old link.new front.new.history (is_err result) }
 {
     answer_all(front, link, lines)?;
     front.close(link)
@@ -166,8 +178,9 @@ fn answer_all<L: BackLink>(front: &mut Front, link: &mut L, lines: &[Line]) -> R
     ensures stands { OnOk result (FrontStands front.new (L.state link.new)) }
     ensures owns { OnErr result (Owns (face front.new.core).objects (L.state link.new)) }
     ensures cause { HasCause (L.faults link.old) (L.faults link.new) result }
-    ensures outside { L.outside link.new ≡ L.outside link.old }
+    ensures at_back { RanAtBack L.state L.told link.old link.new front.new.history (is_err result) }
 {
+    dues_grow();
     for line in lines {
         front.call(link, 0, line.number, &line.call)?;
     }

@@ -1,4 +1,4 @@
-use Rattle.trace_run.proofs.Ends.{ok, usage, trace, refused, too_long, answered, read_fault, cut_off, lost, silent}
+use Rattle.trace_run.proofs.Ends.{ok, usage, trace, refused, too_long, answered, read_fault, cut_off, lost, silent, usage_alone}
 use Rattle.trace_run.proofs.once.run_once.Goals as goal
 
 pub returns-clause-ok : goal.returns-clause-ok
@@ -32,13 +32,13 @@ pub returns-clause-cut_off : goal.returns-clause-cut_off
 returns-clause-cut_off g c = λ is. (cut_off _ _ _ _ _ _ _ _ _ _ _ _ _ c.outcome-said.result.0 c.outcome-said.ensures.said c.say-status.ensures is).1
 
 pub returns-clause-lost : goal.returns-clause-lost
-returns-clause-lost g c = λ is. (lost _ _ _ _ _ _ _ _ _ _ _ _ _ c.outcome-said.result.0 c.outcome-said.ensures.said c.say-status.ensures is).0
-
-pub returns-clause-lost_text : goal.returns-clause-lost_text
-returns-clause-lost_text g c = λ is. (lost _ _ _ _ _ _ _ _ _ _ _ _ _ c.outcome-said.result.0 c.outcome-said.ensures.said c.say-status.ensures is).1
+returns-clause-lost g c = lost _ _ _ _ _ _ _ _ _ _ _ _ _ c.outcome-said.result.0 c.outcome-said.ensures.said c.say-status.ensures
 
 pub returns-clause-silent : goal.returns-clause-silent
 returns-clause-silent g c = silent c.outcome-said.result.0 c.say-status.ensures
 
 pub returns-clause-served : goal.returns-clause-served
 returns-clause-served g c = λ spells is. (usage _ _ _ _ _ _ _ _ _ _ _ _ _ c.outcome-said.result.0 c.outcome-said.ensures.said c.say-status.ensures is).0 spells
+
+pub returns-clause-unserved : goal.returns-clause-unserved
+returns-clause-unserved g c = λ none. usage_alone c.outcome-said.result.0 (c.outcome-said.ensures.unserved none) c.say-status.ensures
