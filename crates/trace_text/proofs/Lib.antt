@@ -10,3 +10,4 @@ pub mod FeedLaws
 pub mod SpacingLaws
 pub mod HeaderLaws
 pub mod TextLaws
+pub mod OrderLaws
