@@ -6,7 +6,6 @@ pub mod Spelling
 pub mod Spacing
 pub mod Traces
 pub mod Orders
-pub mod Orders
 pub use Rattle.trace_words.specs.Lexing
 pub use Rattle.trace_words.specs.Faults
 pub use Rattle.trace_words.specs.Tables

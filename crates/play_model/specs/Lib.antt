@@ -1,0 +1,2 @@
+pub mod Plays
+pub use Rattle.trace_text.specs.Orders
