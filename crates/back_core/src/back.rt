@@ -68,6 +68,15 @@ impl<D: Device> Back<D> {
         }
     }
 
+    /// What happened came in an order that is allowed, and the device's journal is what it did of it.
+    pub fn is_in_order(&self)
+        ensures run { IsRun self.now.history }
+        ensures journal { D.journal self.now.device ≡ journal_of self.now.history }
+        ensures in_order { IsInOrder (D.journal self.now.device) (D.bytes_of self.now.device) }
+    {
+        let _ = &self.alloc;
+    }
+
     /// How many events there were. It looks at none of them.
     pub fn count(&self) -> u64
         ensures count { result ≡ length self.now.history }
