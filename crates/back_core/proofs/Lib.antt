@@ -30,6 +30,7 @@ mod Placed
 mod Journals
 mod Made
 mod Known
+mod Objects
 mod Alone
 mod Idle
 mod Work

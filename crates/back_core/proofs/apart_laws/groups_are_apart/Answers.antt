@@ -1,5 +1,7 @@
 use Rattle.back_core.proofs.Lives.{completed_rises}
 use Rattle.back_core.proofs.Apart.{calls_apart, own_apart, completed_on, part_others, learns_others, own_alone, own_same}
+use Rattle.back_core.proofs.HostBytes.{group_wrote}
+use Rattle.back_core.proofs.Objects.{same_objects}
 use Rattle.back_core.proofs.apart_laws.groups_are_apart.Goals as goal
 
 pub returns : goal.returns
@@ -12,4 +14,6 @@ returns c = record {
   rises = completed_rises;
   alone = own_alone;
   same = own_same;
+  wrote = group_wrote;
+  objects = same_objects;
 }
