@@ -12,10 +12,11 @@ use garbage::Garbage;
 use vk_device::Device;
 use vk_types::{Batch, Handle, HandleId, Kind, QueueSerial, SerialIndex, Stop};
 
-/// The link of a group to a back that it reaches directly, and which it has meanwhile. The group knows the completed numbers.
+/// The link of a group to a back that it reaches directly, and which it has meanwhile. The group knows the completed numbers. Groups
+/// that take turns at one back have one such link: `group` is then the number, from 0 to 7, of the one whose turn it is.
 pub struct Direct<D: Device> {
-    back: Back<D>,
-    group: u8,
+    pub back: Back<D>,
+    pub group: u8,
 }
 
 impl<D: Device> Direct<D> {
