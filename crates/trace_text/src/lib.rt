@@ -1,7 +1,8 @@
 // A trace of calls as a text, and the replies to it as a text.
 //
 // `parse` gives the trace that a text spells, or its first fault: the relation `Spells` of specs/Traces says what a text spells, and
-// `trace_of` of specs/Reading which fault comes on which line. `traces_are_in_order` says what holds of each trace. docs/trace-format.md has the format in words.
+// `trace_of` of specs/Reading which fault comes on which line. `traces_are_in_order` says what holds of each trace (specs/Orders).
+// docs/trace-format.md has the format in words.
 #![tactic(auto)]
 
 mod call_word;
