@@ -1,5 +1,5 @@
 pub mod LegalLemmas
-pub mod CappedSums
+pub mod CountedTables
 pub mod TableLaws
 pub mod StoreLaws
 pub mod ImageLaws

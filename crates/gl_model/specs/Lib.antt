@@ -5,6 +5,7 @@ pub use Rattle.tables.specs.Table
 pub mod GroupState
 pub mod Bindings
 pub mod Storage
+pub mod Counted
 pub mod RefusalRows
 pub mod BufferRows
 pub mod ContextRows

@@ -1,6 +1,6 @@
 -- The storage of a share group.
-use Rattle.std.specs.Prelude.{ℕ, ◌+◌, ◌-◌, ◌*◌, ◌^◌, Bool, Option, Some, None, List, nat_lt, min}
-use Rattle.std.specs.List.{sum_by, fold}
+use Rattle.std.specs.Prelude.{ℕ, ◌+◌, ◌-◌, ◌*◌, Bool, Option, Some, None, nat_lt}
+use Rattle.std.specs.List.{sum_by}
 use Rattle.formats.specs.Texel.{bytes_per_texel}
 use Rattle.gl_model.specs.declared.objects.ImageInfo.{ImageInfo}
 use Rattle.gl_model.specs.GroupState.{GroupState}
@@ -21,7 +21,3 @@ most_storage = 67108864
 -- The stores and images would pass the limit, where some that are held are given up for more.
 abbrev pub passes_limit : GroupState → ℕ → ℕ → Bool
 passes_limit group held more = nat_lt most_storage ((live_storage group - held) + more)
-
--- a sum that stays at the greatest number of 128 bits once it is there
-abbrev pub capped_sum : {X : Type 0} → (X → ℕ) → List X → ℕ
-capped_sum f items = fold (λ total x. min (total + f x) (2 ^ 128 - 1)) 0 items

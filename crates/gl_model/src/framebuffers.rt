@@ -2,11 +2,11 @@ ghost use Rattle.std.specs.Prelude.{◌≡◌, ◌&&◌, not, is_none, Some};
 ghost use Rattle.gl_model.specs.Bindings.{image_of, read_attachment};
 ghost use Rattle.std.specs.Option.{option_copied};
 
+use crate::counted::Counted;
 use crate::objects::ImageInfo;
 use crate::state::{Attachment, Context, Framebuffer, GroupState, Names};
 use formats::FbStatus;
 use gl_calls::{AttachWhat, FramebufferTarget};
-use tables::Table;
 
 impl Attachment {
     ghost use Rattle.gl_model.specs.Bindings.{is_empty, same_attachment};
@@ -80,7 +80,7 @@ impl Framebuffer {
 }
 
 /// The image of an object of a table, if it has storage.
-fn image_in(images: &Table<Option<ImageInfo>>, object: u32) -> Option<ImageInfo>
+fn image_in(images: &Counted<Option<ImageInfo>>, object: u32) -> Option<ImageInfo>
     ensures { result ≡ image_of images.now (Some object) }
 {
     match images.get(object) {

@@ -1,6 +1,7 @@
 // What OpenGL ES and EGL give to each call: the state of a share group, the refusals, the effects, and legal histories.
 #![tactic(auto)]
 
+mod counted;
 mod framebuffers;
 mod laws;
 mod lookup;
@@ -11,6 +12,7 @@ mod storage;
 #[cfg(test)]
 mod tests;
 
+pub use counted::{Counted, HasBytes};
 pub use framebuffers::read_attachment;
 pub use laws::{
     buffers_have_their_sizes, group_is_a_projection, images_after_an_effect,

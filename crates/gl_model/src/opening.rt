@@ -1,6 +1,7 @@
 ghost use Rattle.std.specs.Prelude.{◌≡◌, [], IfOk};
 ghost use Rattle.gl_model.specs.GroupState.{opening_threads};
 
+use crate::counted::Counted;
 use crate::state::{GroupState, Names};
 use formats::EglError;
 use std::alloc::{AllocError, Global};
@@ -38,9 +39,9 @@ impl GroupState {
             buffer_names: no_names(alloc),
             texture_names: no_names(alloc),
             renderbuffer_names: no_names(alloc),
-            buffers: Table::new(alloc),
-            textures: Table::new(alloc),
-            renderbuffers: Table::new(alloc),
+            buffers: Counted::new(alloc),
+            textures: Counted::new(alloc),
+            renderbuffers: Counted::new(alloc),
             contexts: Table::new(alloc),
             threads: opening_threads(alloc, threads)?,
             syncs: Table::new(alloc),

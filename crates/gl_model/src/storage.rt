@@ -1,10 +1,9 @@
-ghost use Rattle.std.specs.Prelude.{◌≡◌, ◌<◌, ◌^◌, ◌-◌, min};
-ghost use Rattle.gl_model.specs.Storage.{image_bytes, capped_sum};
+ghost use Rattle.std.specs.Prelude.{◌≡◌, ◌<◌, ◌^◌};
+ghost use Rattle.gl_model.specs.Storage.{image_bytes};
 
-use crate::objects::{BufferFacts, ImageInfo};
+use crate::objects::ImageInfo;
 use crate::state::GroupState;
 use formats::texel_size;
-use tables::Table;
 
 /// The bytes of all stores and images of a share group may not pass this number.
 pub const MOST_STORAGE: u128 = 67_108_864;
@@ -20,39 +19,19 @@ pub fn bytes_of(image: Option<ImageInfo>) -> u128
     }
 }
 
-/// The bytes of the stores of a table, or the greatest number of the type where there are more.
-fn bytes_of_stores(buffers: &Table<BufferFacts>) -> u128
-    ensures { result ≡ capped_sum (λ e. e.1.size) buffers.now }
-{
-    buffers
-        .iter()
-        .fold(0u128, |total, e| total.saturating_add(e.1.size as u128))
-}
-
-/// The bytes of the images of a table, or the greatest number of the type where there are more.
-fn bytes_of_images(images: &Table<Option<ImageInfo>>) -> u128
-    ensures { result ≡ capped_sum (λ e. image_bytes e.1) images.now }
-{
-    images
-        .iter()
-        .fold(0u128, |total, e| total.saturating_add(bytes_of(*e.1)))
-}
-
 impl GroupState {
     ghost use Rattle.gl_model.specs.Storage.{live_storage, passes_limit};
 
-    /// The bytes of all stores and images, or the greatest number of the type where there are more.
+    /// The bytes of all stores and images.
     fn live_storage(&self) -> u128
-        ensures { result ≡ min (live_storage self.now) (2 ^ 128 - 1) }
+        ensures { result ≡ live_storage self.now }
     {
-        bytes_of_stores(&self.buffers)
-            .saturating_add(bytes_of_images(&self.textures))
-            .saturating_add(bytes_of_images(&self.renderbuffers))
+        self.buffers.total() + self.textures.total() + self.renderbuffers.total()
     }
 
-    /// Whether the stores and images would pass the limit, where some that are held are given up for more.
+    /// Whether the stores and images would pass the limit, where some that are held are given up for more. This costs the same however
+    /// many there are.
     pub fn passes_limit(&self, held: u128, more: u128) -> bool
-        requires { held < 2 ^ 127 }
         ensures { result ≡ passes_limit self.now held more }
     {
         let rest = self.live_storage().saturating_sub(held);

@@ -7,8 +7,7 @@ ghost use Rattle.gl_state.specs.Changes.{bound_number, changed_buffer};
 
 use crate::state::SharedState;
 use gl_calls::{AccessWord, BufferTarget, Call};
-use gl_model::{BufferFacts, GroupState, Mapped};
-use tables::Table;
+use gl_model::{BufferFacts, Counted, GroupState, Mapped};
 
 /// The magnitude of a number.
 fn magnitude(value: i64) -> u64
@@ -28,7 +27,7 @@ fn bound_number(group: &GroupState, thread: u32, target: BufferTarget) -> Option
 }
 
 /// Gives the buffer of a number a new store.
-fn set_store(buffers: &mut Table<BufferFacts>, number: Option<u32>, size: u64)
+fn set_store(buffers: &mut Counted<BufferFacts>, number: Option<u32>, size: u64)
     ensures { buffers.new ≡ changed_buffer number (λ _. record { size = size; map = None }) buffers.old }
 {
     let Some(buffer) = number else {
@@ -40,7 +39,7 @@ fn set_store(buffers: &mut Table<BufferFacts>, number: Option<u32>, size: u64)
 }
 
 /// Maps the buffer of a number, or ends its map.
-pub fn set_map(buffers: &mut Table<BufferFacts>, number: Option<u32>, map: Option<Mapped>)
+pub fn set_map(buffers: &mut Counted<BufferFacts>, number: Option<u32>, map: Option<Mapped>)
     ensures { buffers.new ≡ changed_buffer number (λ f. record f { map = map }) buffers.old }
 {
     let Some(buffer) = number else {

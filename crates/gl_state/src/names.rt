@@ -4,7 +4,7 @@ ghost use Rattle.std.specs.Option.{option_map_or};
 ghost use Rattle.tables.specs.Table.{has, with_entry};
 ghost use Rattle.gl_model.specs.GroupEffect.{object_of, after_bind, with_made};
 
-use gl_model::Names;
+use gl_model::{Counted, HasBytes, Names};
 use std::alloc::AllocError;
 use tables::Table;
 
@@ -20,9 +20,9 @@ pub fn object_of(names: &Names, name: u32) -> Option<u32>
 
 /// Makes an object for a name other than 0 that has none (OpenGL ES 3.0.6, Object Model). For want of memory, also where
 /// 4294967295 objects of the kind were made, nothing changes.
-pub fn make_object<V: Drop>(
+pub fn make_object<V: HasBytes + Drop>(
     names: &mut Names,
-    objects: &mut Table<V>,
+    objects: &mut Counted<V>,
     name: u32,
     fresh: V,
 ) -> Result<(), AllocError>
@@ -52,8 +52,8 @@ pub fn make_object<V: Drop>(
 }
 
 /// Lists an object that loses its name, if it exists. For want of memory nothing changes.
-pub fn list_nameless<V: Drop>(
-    objects: &Table<V>,
+pub fn list_nameless<V: HasBytes + Drop>(
+    objects: &Counted<V>,
     nameless: &mut Table<()>,
     object: Option<u32>,
 ) -> Result<(), AllocError>

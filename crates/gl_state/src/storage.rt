@@ -11,9 +11,8 @@ use crate::nameless::Ended;
 use crate::state::SharedState;
 use crate::sweep::sweep;
 use gl_calls::{Call, FormatWord};
-use gl_model::{GroupState, ImageInfo};
+use gl_model::{Counted, GroupState, ImageInfo};
 use std::alloc::{AllocError, Global};
-use tables::Table;
 
 /// The image that new storage makes: none where a side is 0.
 fn new_image(format: FormatWord, width: i32, height: i32) -> Option<ImageInfo>
@@ -35,7 +34,7 @@ fn new_image(format: FormatWord, width: i32, height: i32) -> Option<ImageInfo>
 }
 
 /// Gives the object of a number an image.
-fn set_image(images: &mut Table<Option<ImageInfo>>, number: Option<u32>, image: Option<ImageInfo>)
+fn set_image(images: &mut Counted<Option<ImageInfo>>, number: Option<u32>, image: Option<ImageInfo>)
     requires { option_map_or (λ t. has t images.old) number true ≡ true }
     ensures { images.new ≡ change_image number image images.old }
 {

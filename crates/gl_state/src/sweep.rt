@@ -10,7 +10,7 @@ ghost use Rattle.gl_state.specs.Ended.{AreGone, HasRoom, without_all};
 
 use crate::nameless::{Ended, Nameless};
 use crate::references::{is_bound_buffer, is_bound_renderbuffer, is_bound_texture};
-use gl_model::{Context, GroupState};
+use gl_model::{Context, Counted, GroupState, HasBytes};
 use tables::Table;
 
 /// Adds an object to a list that has room.
@@ -65,12 +65,21 @@ fn note_renderbuffers(contexts: &Table<Context>, nameless: &Table<()>, ended: &m
     }
 }
 
-/// Takes keys out of a table.
-fn remove_all<V: Drop>(table: &mut Table<V>, keys: &[u32])
-    ensures { table.new ≡ without_all keys.now table.old }
+/// Takes objects out of their table.
+fn remove_objects<V: HasBytes + Drop>(objects: &mut Counted<V>, keys: &[u32])
+    ensures { objects.new ≡ without_all keys.now objects.old }
 {
     for key in keys {
-        table.remove(*key);
+        objects.remove(*key);
+    }
+}
+
+/// Takes objects off the list of those without a name.
+fn unlist_all(nameless: &mut Table<()>, keys: &[u32])
+    ensures { nameless.new ≡ without_all keys.now nameless.old }
+{
+    for key in keys {
+        nameless.remove(*key);
     }
 }
 
@@ -84,16 +93,16 @@ pub fn sweep(group: &mut GroupState, nameless: &mut Nameless, ended: &mut Ended)
     ensures ended { AreGone group.old group.new ended.new }
 {
     note_buffers(&group.contexts, &nameless.buffers, &mut ended.buffers);
-    remove_all(&mut group.buffers, ended.buffers.as_slice());
-    remove_all(&mut nameless.buffers, ended.buffers.as_slice());
+    remove_objects(&mut group.buffers, ended.buffers.as_slice());
+    unlist_all(&mut nameless.buffers, ended.buffers.as_slice());
     note_textures(&group.contexts, &nameless.textures, &mut ended.textures);
-    remove_all(&mut group.textures, ended.textures.as_slice());
-    remove_all(&mut nameless.textures, ended.textures.as_slice());
+    remove_objects(&mut group.textures, ended.textures.as_slice());
+    unlist_all(&mut nameless.textures, ended.textures.as_slice());
     note_renderbuffers(
         &group.contexts,
         &nameless.renderbuffers,
         &mut ended.renderbuffers,
     );
-    remove_all(&mut group.renderbuffers, ended.renderbuffers.as_slice());
-    remove_all(&mut nameless.renderbuffers, ended.renderbuffers.as_slice());
+    remove_objects(&mut group.renderbuffers, ended.renderbuffers.as_slice());
+    unlist_all(&mut nameless.renderbuffers, ended.renderbuffers.as_slice());
 }

@@ -12,55 +12,55 @@ returns-clause-swept c =
     rw (
       left_is c.args.group.now.buffer_names c.args.group.now.buffers c.args.nameless.now.buffers c.requires.tied.buffers
           (λ (b : ℕ). any_value (binds_buffer b) c.args.group.now.contexts)
-          c.remove_all.new.table c.remove_all-2.new.table c.note_buffers.new.ended.items c.note_buffers.ensures
-          (c.remove_all.ensures ∙ ap (λ ks. without_all ks c.args.group.now.buffers) c.as_slice.ensures.value)
-          (c.remove_all-2.ensures ∙ ap (λ ks. without_all ks c.args.nameless.now.buffers) c.as_slice-2.ensures.value),
+          c.remove_objects.new.objects c.unlist_all.new.nameless c.note_buffers.new.ended.items c.note_buffers.ensures
+          (c.remove_objects.ensures ∙ ap (λ ks. without_all ks c.args.group.now.buffers) c.as_slice.ensures.value)
+          (c.unlist_all.ensures ∙ ap (λ ks. without_all ks c.args.nameless.now.buffers) c.as_slice-2.ensures.value),
       left_is c.args.group.now.texture_names c.args.group.now.textures c.args.nameless.now.textures c.requires.tied.textures
           (λ (b : ℕ). any_value (λ x. same_option x.texture (Some b) || attaches (Texture b) x) c.args.group.now.contexts)
-          c.remove_all-3.new.table c.remove_all-4.new.table c.note_textures.new.ended.items c.note_textures.ensures
-          (c.remove_all-3.ensures ∙ ap (λ ks. without_all ks c.args.group.now.textures) c.as_slice-3.ensures.value)
-          (c.remove_all-4.ensures ∙ ap (λ ks. without_all ks c.args.nameless.now.textures) c.as_slice-4.ensures.value),
+          c.remove_objects-2.new.objects c.unlist_all-2.new.nameless c.note_textures.new.ended.items c.note_textures.ensures
+          (c.remove_objects-2.ensures ∙ ap (λ ks. without_all ks c.args.group.now.textures) c.as_slice-3.ensures.value)
+          (c.unlist_all-2.ensures ∙ ap (λ ks. without_all ks c.args.nameless.now.textures) c.as_slice-4.ensures.value),
       left_is c.args.group.now.renderbuffer_names c.args.group.now.renderbuffers c.args.nameless.now.renderbuffers c.requires.tied.renderbuffers
           (λ (b : ℕ). any_value (λ x. same_option x.renderbuffer (Some b) || attaches (Renderbuffer b) x) c.args.group.now.contexts)
-          c.remove_all-5.new.table c.remove_all-6.new.table c.note_renderbuffers.new.ended.items c.note_renderbuffers.ensures
-          (c.remove_all-5.ensures ∙ ap (λ ks. without_all ks c.args.group.now.renderbuffers) c.as_slice-5.ensures.value)
-          (c.remove_all-6.ensures ∙ ap (λ ks. without_all ks c.args.nameless.now.renderbuffers) c.as_slice-6.ensures.value),
+          c.remove_objects-3.new.objects c.unlist_all-3.new.nameless c.note_renderbuffers.new.ended.items c.note_renderbuffers.ensures
+          (c.remove_objects-3.ensures ∙ ap (λ ks. without_all ks c.args.group.now.renderbuffers) c.as_slice-5.ensures.value)
+          (c.unlist_all-3.ensures ∙ ap (λ ks. without_all ks c.args.nameless.now.renderbuffers) c.as_slice-6.ensures.value),
     ) refl
 
 pub returns-clause-tied : goal.returns-clause-tied
 returns-clause-tied c = record {
   buffers = left_tied c.args.group.now.buffer_names c.args.group.now.buffers c.args.nameless.now.buffers c.requires.tied.buffers
       (λ (b : ℕ). any_value (binds_buffer b) c.args.group.now.contexts)
-      c.remove_all.new.table c.remove_all-2.new.table c.note_buffers.new.ended.items c.note_buffers.ensures
-      (c.remove_all.ensures ∙ ap (λ ks. without_all ks c.args.group.now.buffers) c.as_slice.ensures.value)
-      (c.remove_all-2.ensures ∙ ap (λ ks. without_all ks c.args.nameless.now.buffers) c.as_slice-2.ensures.value);
+      c.remove_objects.new.objects c.unlist_all.new.nameless c.note_buffers.new.ended.items c.note_buffers.ensures
+      (c.remove_objects.ensures ∙ ap (λ ks. without_all ks c.args.group.now.buffers) c.as_slice.ensures.value)
+      (c.unlist_all.ensures ∙ ap (λ ks. without_all ks c.args.nameless.now.buffers) c.as_slice-2.ensures.value);
   textures = left_tied c.args.group.now.texture_names c.args.group.now.textures c.args.nameless.now.textures c.requires.tied.textures
       (λ (b : ℕ). any_value (λ x. same_option x.texture (Some b) || attaches (Texture b) x) c.args.group.now.contexts)
-      c.remove_all-3.new.table c.remove_all-4.new.table c.note_textures.new.ended.items c.note_textures.ensures
-      (c.remove_all-3.ensures ∙ ap (λ ks. without_all ks c.args.group.now.textures) c.as_slice-3.ensures.value)
-      (c.remove_all-4.ensures ∙ ap (λ ks. without_all ks c.args.nameless.now.textures) c.as_slice-4.ensures.value);
+      c.remove_objects-2.new.objects c.unlist_all-2.new.nameless c.note_textures.new.ended.items c.note_textures.ensures
+      (c.remove_objects-2.ensures ∙ ap (λ ks. without_all ks c.args.group.now.textures) c.as_slice-3.ensures.value)
+      (c.unlist_all-2.ensures ∙ ap (λ ks. without_all ks c.args.nameless.now.textures) c.as_slice-4.ensures.value);
   renderbuffers = left_tied c.args.group.now.renderbuffer_names c.args.group.now.renderbuffers c.args.nameless.now.renderbuffers c.requires.tied.renderbuffers
       (λ (b : ℕ). any_value (λ x. same_option x.renderbuffer (Some b) || attaches (Renderbuffer b) x) c.args.group.now.contexts)
-      c.remove_all-5.new.table c.remove_all-6.new.table c.note_renderbuffers.new.ended.items c.note_renderbuffers.ensures
-      (c.remove_all-5.ensures ∙ ap (λ ks. without_all ks c.args.group.now.renderbuffers) c.as_slice-5.ensures.value)
-      (c.remove_all-6.ensures ∙ ap (λ ks. without_all ks c.args.nameless.now.renderbuffers) c.as_slice-6.ensures.value);
+      c.remove_objects-3.new.objects c.unlist_all-3.new.nameless c.note_renderbuffers.new.ended.items c.note_renderbuffers.ensures
+      (c.remove_objects-3.ensures ∙ ap (λ ks. without_all ks c.args.group.now.renderbuffers) c.as_slice-5.ensures.value)
+      (c.unlist_all-3.ensures ∙ ap (λ ks. without_all ks c.args.nameless.now.renderbuffers) c.as_slice-6.ensures.value);
 }
 
 pub returns-clause-ended : goal.returns-clause-ended
 returns-clause-ended c = record {
   buffers = left_gone c.args.group.now.buffer_names c.args.group.now.buffers c.args.nameless.now.buffers c.requires.tied.buffers
       (λ (b : ℕ). any_value (binds_buffer b) c.args.group.now.contexts)
-      c.remove_all.new.table c.remove_all-2.new.table c.note_buffers.new.ended.items c.note_buffers.ensures
-      (c.remove_all.ensures ∙ ap (λ ks. without_all ks c.args.group.now.buffers) c.as_slice.ensures.value)
-      (c.remove_all-2.ensures ∙ ap (λ ks. without_all ks c.args.nameless.now.buffers) c.as_slice-2.ensures.value);
+      c.remove_objects.new.objects c.unlist_all.new.nameless c.note_buffers.new.ended.items c.note_buffers.ensures
+      (c.remove_objects.ensures ∙ ap (λ ks. without_all ks c.args.group.now.buffers) c.as_slice.ensures.value)
+      (c.unlist_all.ensures ∙ ap (λ ks. without_all ks c.args.nameless.now.buffers) c.as_slice-2.ensures.value);
   textures = left_gone c.args.group.now.texture_names c.args.group.now.textures c.args.nameless.now.textures c.requires.tied.textures
       (λ (b : ℕ). any_value (λ x. same_option x.texture (Some b) || attaches (Texture b) x) c.args.group.now.contexts)
-      c.remove_all-3.new.table c.remove_all-4.new.table c.note_textures.new.ended.items c.note_textures.ensures
-      (c.remove_all-3.ensures ∙ ap (λ ks. without_all ks c.args.group.now.textures) c.as_slice-3.ensures.value)
-      (c.remove_all-4.ensures ∙ ap (λ ks. without_all ks c.args.nameless.now.textures) c.as_slice-4.ensures.value);
+      c.remove_objects-2.new.objects c.unlist_all-2.new.nameless c.note_textures.new.ended.items c.note_textures.ensures
+      (c.remove_objects-2.ensures ∙ ap (λ ks. without_all ks c.args.group.now.textures) c.as_slice-3.ensures.value)
+      (c.unlist_all-2.ensures ∙ ap (λ ks. without_all ks c.args.nameless.now.textures) c.as_slice-4.ensures.value);
   renderbuffers = left_gone c.args.group.now.renderbuffer_names c.args.group.now.renderbuffers c.args.nameless.now.renderbuffers c.requires.tied.renderbuffers
       (λ (b : ℕ). any_value (λ x. same_option x.renderbuffer (Some b) || attaches (Renderbuffer b) x) c.args.group.now.contexts)
-      c.remove_all-5.new.table c.remove_all-6.new.table c.note_renderbuffers.new.ended.items c.note_renderbuffers.ensures
-      (c.remove_all-5.ensures ∙ ap (λ ks. without_all ks c.args.group.now.renderbuffers) c.as_slice-5.ensures.value)
-      (c.remove_all-6.ensures ∙ ap (λ ks. without_all ks c.args.nameless.now.renderbuffers) c.as_slice-6.ensures.value);
+      c.remove_objects-3.new.objects c.unlist_all-3.new.nameless c.note_renderbuffers.new.ended.items c.note_renderbuffers.ensures
+      (c.remove_objects-3.ensures ∙ ap (λ ks. without_all ks c.args.group.now.renderbuffers) c.as_slice-5.ensures.value)
+      (c.unlist_all-3.ensures ∙ ap (λ ks. without_all ks c.args.nameless.now.renderbuffers) c.as_slice-6.ensures.value);
 }

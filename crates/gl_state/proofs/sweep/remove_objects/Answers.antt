@@ -1,9 +1,9 @@
 use Rattle.std.proofs.Common.{ap, sym, ◌∙◌}
 use Rattle.std.proofs.lemmas.List.{drop_more}
 use Rattle.gl_state.specs.Ended.{without_all}
-use Rattle.gl_state.proofs.sweep.remove_all.Goals as goal
+use Rattle.gl_state.proofs.sweep.remove_objects.Goals as goal
 
 pub loop-key-preserved : goal.loop-key-preserved
 loop-key-preserved g c =
     let first = drop_more c.args.keys.now c.loop-key.key-index 0 c.loop-key-test.true in
-    rw c.remove.ensures (ap (λ keys. without_all keys c.loop-key.table) (sym first) ∙ c.loop-key.invariant)
+    rw c.remove.ensures (ap (λ keys. without_all keys c.loop-key.objects) (sym first) ∙ c.loop-key.invariant)
