@@ -1,1 +1,2 @@
 pub mod FourNodes
+pub mod Fuses
