@@ -1,0 +1,5 @@
+mod Lists
+mod Traces
+mod Starting
+mod GoingOn
+mod Waiting
