@@ -1,5 +1,5 @@
 -- A play with one line more.
-use Rattle.std.proofs.Common.{◌≡◌, ℕ, ◌+◌, ◌≤◌, suc, refl, sym, ap, ◌∙◌, subst, inl, inr, arith, length-set}
+use Rattle.std.proofs.Common.{◌≡◌, ℕ, ◌+◌, refl, sym, ap, ◌∙◌, subst, inl, inr, arith, length-set}
 use Rattle.std.specs.Prelude.{◌⊎◌, ◌==◌, List, [], ◌∷◌, ◌++◌, length, map, set, take, slice_get, All, Contains, Some}
 use Rattle.std.proofs.lemmas.Bool.{cases_eq, eq-eqb, ne_eqb}
 use Rattle.std.proofs.lemmas.List.{map_push}
@@ -9,7 +9,7 @@ use Rattle.gl_calls.specs.declared.reply.Entry.{Entry}
 use Rattle.gl_model.specs.Legal.{IsLegal}
 use Rattle.trace_text.specs.declared.trace.Line.{Line}
 use Rattle.trace_text.specs.Reading.{Plan}
-use Rattle.trace_text.specs.Orders.{IsLineOf, IsTrace}
+use Rattle.trace_text.specs.Orders.{IsTrace}
 use Rattle.play_model.specs.Plays.{Play, Plays, HasPlayed, AreAnswered, IsBehind, StandBehind, members}
 use Rattle.play_model.specs.Plays.{asked_by, asked_on, entries_of, entry_on}
 use Rattle.play_model.proofs.Lists.{LastOrBefore, filter_more, filter_same, get_set_here, get_set_other, last_or_before, take_next}

@@ -1,5 +1,5 @@
 -- The lines of a trace, and the threads of its groups.
-use Rattle.std.proofs.Common.{◌≡◌, ℕ, zero, suc, ◌+◌, ◌<◌, ◌≤◌, refl, sym, ap, ◌∙◌, subst, inl, inr, arith}
+use Rattle.std.proofs.Common.{◌≡◌, ℕ, zero, suc, ◌+◌, ◌<◌, ◌≤◌, sym, ap, ◌∙◌, subst, inl, inr, arith}
 use Rattle.std.specs.Prelude.{◌⊎◌, ◌==◌, Bool, true, false, cond, List, [], ◌∷◌, slice_get, Contains, Some}
 use Rattle.std.proofs.lemmas.Bool.{cases_order, cond-true, eq-eqb}
 use Rattle.std.proofs.lemmas.Option.{same_Some, none-some}

@@ -1,6 +1,6 @@
 -- A thread whose next line is ready.
-use Rattle.std.proofs.Common.{◌≡◌, ℕ, zero, suc, ◌<◌, ◌≤◌, refl, sym, ap, ◌∙◌, subst, inl, inr, arith}
-use Rattle.std.specs.Prelude.{◌⊎◌, ◌==◌, Bool, true, false, cond, List, [], ◌∷◌, length, map, take, slice_get, Option, Some, None}
+use Rattle.std.proofs.Common.{◌≡◌, ℕ, zero, suc, ◌<◌, ◌≤◌, sym, ap, ◌∙◌, subst, inl, inr, arith}
+use Rattle.std.specs.Prelude.{◌⊎◌, ◌==◌, Bool, true, false, cond, List, [], ◌∷◌, length, map, take, slice_get, Some, None}
 use Rattle.std.proofs.lemmas.Bool.{cases_lt, cases_order, eq-eqb, or_left, or_right}
 use Rattle.std.proofs.lemmas.Option.{same_Some, none-some, slice_get_within}
 use Rattle.gl_calls.specs.declared.reply.Entry.{Entry}
@@ -63,7 +63,7 @@ module _ (threads : List Plan) (p : Play) (trace : IsTrace threads) (has : HasPl
           let asked : Asked = asked_on its.thread its.line in
           let at : slice_get (map (asked_on its.thread) (take count.0 plan.lines)) its.place ≡ Some asked
           = get_map (asked_on its.thread) (take count.0 plan.lines) its.place its.line
-              (get_taken plan.lines count.0 its.place its.line lt its.is.is_line) in
+          (get_taken plan.lines count.0 its.place its.line lt its.is.is_line) in
           let there : is_answered (p.histories plan.group) its.line.number ≡ true
           = found its.thread (p.histories plan.group) its.place asked (ap (λ l. slice_get l its.place) answered.in_order ∙ at) in
           subst (λ g. is_answered (p.histories g) number ≡ true) its.of_group
