@@ -7,7 +7,7 @@ use Rattle.gl_calls.specs.declared.reply.Reply.TheVariants as reply
 use Rattle.vk_types.specs.declared.batches.Batch.{Batch}
 use Rattle.vk_types.specs.Touches.{barrier_of}
 use Rattle.vk_device.specs.declared.logged.Logged.{Logged}
-use Rattle.vk_device.specs.declared.logged.Logged.TheVariants.{Created, Wrote, Submitted, Ran, Fetched, Destroyed}
+use Rattle.vk_device.specs.declared.logged.Logged.TheVariants.{Created, Submitted, Ran, Destroyed}
 use Rattle.vk_device.specs.Journal.{accepted, node_at}
 use Rattle.back_core.specs.Frame.{host_bytes}
 use Rattle.reply_text.specs.declared.history.GroupHistory.{GroupHistory}

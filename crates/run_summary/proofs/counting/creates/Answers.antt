@@ -1,0 +1,11 @@
+use Rattle.std.proofs.Common.{rules, tests, ◌∙◌}
+use Rattle.std.proofs.lemmas.List.Sums.{length-filter}
+use Rattle.std.proofs.lemmas.Iterator.{YieldsList-from_slice}
+use Rattle.std.proofs.lemmas.Iterator.Consumers.{count_from_yields_List, YieldsList-from_filter}
+use Rattle.run_summary.specs.Counting.{is_create}
+use Rattle.run_summary.proofs.counting.creates.Goals as goal
+
+pub returns : goal.returns
+returns c =
+    count_from_yields_List c.filter.result _ c.count.ensures.ran (YieldsList-from_filter _ is_create (YieldsList-from_slice c.args.journal.now cc) c.filter.ensures.closure (λ x b q k. search (rules, tests)))
+    ∙ length-filter is_create c.args.journal.now
