@@ -10,7 +10,7 @@ use Rattle.vk_model.proofs.Parts.{overwritten-inside, overwritten-outside}
 use Rattle.vk_objects.proofs.ImageNodes.{texel_fits}
 use Rattle.vk_objects.proofs.PassSteps.{texel_some}
 use Rattle.vk_objects.proofs.Expanding.{texel_converted}
-use Rattle.std.proofs.Common.{◌≡◌, ℕ, ◌+◌, ◌-◌, ◌*◌, ◌/◌, ◌%◌, ◌<◌, ◌≤◌, List, length, get_or, Bool, true, false, refl, sym, ◌∙◌, ap, subst, arith, inl, inr}
+use Rattle.std.proofs.Common.{◌≡◌, ℕ, ◌+◌, ◌-◌, ◌*◌, ◌/◌, ◌%◌, ◌<◌, ◌≤◌, List, length, get_or, true, false, refl, sym, ◌∙◌, ap, subst, arith, inl, inr}
 use Rattle.std.specs.Prelude.{◌⊎◌, ◌&&◌, ℤ, pos, Option, Some, None, nat_lt, nat_le, slice_index}
 use Rattle.std.proofs.lemmas.Bool.{cases_Bool, ltb-true, ltb-false, and_parts, leb-true, cond-true, cond-false}
 use Rattle.std.proofs.lemmas.Nat.{div-mul-add, mod-mul-add, div_below, mod_below}

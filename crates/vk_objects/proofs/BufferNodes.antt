@@ -10,12 +10,14 @@ use Rattle.vk_types.specs.Touches.{the_end}
 use Rattle.cells.specs.Contents.{UNDEFINED, AgreesAt, cell_at, part, overwritten}
 use Rattle.vk_model.specs.Cells.{op_cell}
 use Rattle.vk_model.specs.Log.{Command, Range}
-use Rattle.vk_model.specs.Meaning.{covers, is_written}
-use Rattle.vk_model.proofs.Copies.{covered_from}
+use Rattle.vk_model.specs.Meaning.{covers, is_written, found}
+use Rattle.vk_model.proofs.Copies.{covered_from, found_at}
 use Rattle.vk_objects.specs.declared.objects.Objects.{Objects}
 use Rattle.vk_objects.specs.Objects.{bytes_of, kinds_of, contents_of, SetsBytes, Rewrites, Executes}
 use Rattle.vk_model.proofs.Parts.{overwritten-outside, overwritten-inside, length-overwritten, part-at, length-part}
+use Rattle.vk_objects.specs.Undefined.{KeepsAt}
 use Rattle.vk_objects.proofs.Executing.{Writes, executes}
+use Rattle.vk_objects.proofs.Finding.{kept_exactly}
 
 -- a range of a buffer
 abbrev range : HandleId → ℕ → ℕ → Range
@@ -47,7 +49,7 @@ module _ (dst : HandleId) (at size : ℕ) (inside : at + size ≤ the_end) where
   others_unwritten other i ne = or_from (covers other i (range dst at size)) false (and_left (nat_eq dst.0 other && nat_le at i) (nat_lt i (min (at + size) the_end)) (and_left (nat_eq dst.0 other) (nat_le at i) (ne_eqb dst.0 other (λ e. ne (sym e))))) refl
 
 module _ (old : Objects) (src : HandleId) (src_at : ℕ) (dst : HandleId) (dst_at size : ℕ) (end_inside : dst_at + size ≤ the_end)
-    (src_inside : src_at + size ≤ length (bytes_of old src.0)) (dst_inside : dst_at + size ≤ length (bytes_of old dst.0)) where
+    (src_end_inside : src_at + size ≤ the_end) (src_inside : src_at + size ≤ length (bytes_of old src.0)) (dst_inside : dst_at + size ≤ length (bytes_of old dst.0)) where
   abbrev copied : List ℕ
   copied = part (bytes_of old src.0) src_at size
 
@@ -60,17 +62,31 @@ module _ (old : Objects) (src : HandleId) (src_at : ℕ) (dst : HandleId) (dst_a
   fits_copied : dst_at + length copied ≤ length (bytes_of old dst.0)
   fits_copied = omega (arith, copied_len, dst_inside)
 
+  copied_at : (i : ℕ) → is_written (Command 0 copy_node) dst.0 i ≡ true → cell_at (overwritten (bytes_of old dst.0) dst_at copied) i ≡ contents_of old src.0 (src_at + (i - dst_at))
+  copied_at i w =
+      let at = in_range dst dst_at size end_inside i w in
+      let j : ℕ = i - dst_at in
+      let lt : j < size = omega (arith, at.0, at.1) in
+      let here : dst_at + j ≡ i = omega (arith, at.0) in
+      ap (cell_at (overwritten (bytes_of old dst.0) dst_at copied)) (sym here)
+      ∙ overwritten-inside (bytes_of old dst.0) dst_at copied fits_copied j (omega (arith, copied_len, lt))
+      ∙ part-at (bytes_of old src.0) src_at size j lt
+
+  read_at : (i : ℕ) → is_written (Command 0 copy_node) dst.0 i ≡ true → found (Command 0 copy_node) (contents_of old) src.0 (src_at + (i - dst_at)) ≡ contents_of old src.0 (src_at + (i - dst_at))
+  read_at i w =
+      let at = in_range dst dst_at size end_inside i w in
+      let p : ℕ = src_at + (i - dst_at) in
+      let lt : i - dst_at < size = omega (arith, at.0, at.1) in
+      let read : Range = record { id = src.0; start = src_at; end = min (src_at + size) the_end; written = false } in
+      let write : Range = range dst dst_at size in
+      let covers_read : covers src.0 p read ≡ true = covered_from src.0 p read refl (omega arith) (omega (arith, lt, src_end_inside)) in
+      found_at (Command 0 copy_node) (contents_of old) src.0 p (or_left (covers src.0 p read) (covers src.0 p write || false) covers_read)
+
   pub copy_writes : Writes old copy_node dst.0 (overwritten (bytes_of old dst.0) dst_at copied)
   copy_writes = record {
     only = λ other i ne. others_unwritten dst dst_at size end_inside other i ne;
-    inside = λ i w below.
-        let at = in_range dst dst_at size end_inside i w in
-        let j : ℕ = i - dst_at in
-        let lt : j < size = omega (arith, at.0, at.1) in
-        let here : dst_at + j ≡ i = omega (arith, at.0) in
-        ap (cell_at (overwritten (bytes_of old dst.0) dst_at copied)) (sym here)
-        ∙ overwritten-inside (bytes_of old dst.0) dst_at copied fits_copied j (omega (arith, copied_len, lt))
-        ∙ part-at (bytes_of old src.0) src_at size j lt;
+    inside = λ i w below. copied_at i w;
+    kept = λ i w. kept_exactly (contents_of old dst.0 i) (cell_at (overwritten (bytes_of old dst.0) dst_at copied) i) (found (Command 0 copy_node) (contents_of old) src.0 (src_at + (i - dst_at))) (copied_at i w ∙ sym (read_at i w));
     outside = λ i u. overwritten-outside (bytes_of old dst.0) dst_at copied fits_copied i (elim (out_of_range dst dst_at size end_inside i u) [ inl before ↦ inl before | inr past ↦ inr (omega (arith, copied_len, past)) ]);
     size = length-overwritten (bytes_of old dst.0) dst_at copied fits_copied;
   }
@@ -91,17 +107,21 @@ module _ (old : Objects) (dst : HandleId) (dst_at size byte : ℕ) (end_inside :
   fits_filling : dst_at + length filling ≤ length (bytes_of old dst.0)
   fits_filling = omega (arith, filling_len, dst_inside)
 
+  filled_at : (i : ℕ) → is_written (Command 0 fill_node) dst.0 i ≡ true → cell_at (overwritten (bytes_of old dst.0) dst_at filling) i ≡ byte
+  filled_at i w =
+      let at = in_range dst dst_at size end_inside i w in
+      let j : ℕ = i - dst_at in
+      let lt : j < size = omega (arith, at.0, at.1) in
+      let here : dst_at + j ≡ i = omega (arith, at.0) in
+      ap (cell_at (overwritten (bytes_of old dst.0) dst_at filling)) (sym here)
+      ∙ overwritten-inside (bytes_of old dst.0) dst_at filling fits_filling j (omega (arith, filling_len, lt))
+      ∙ get_or-replicate size j byte UNDEFINED lt
+
   pub fill_writes : Writes old fill_node dst.0 (overwritten (bytes_of old dst.0) dst_at filling)
   fill_writes = record {
     only = λ other i ne. others_unwritten dst dst_at size end_inside other i ne;
-    inside = λ i w below.
-        let at = in_range dst dst_at size end_inside i w in
-        let j : ℕ = i - dst_at in
-        let lt : j < size = omega (arith, at.0, at.1) in
-        let here : dst_at + j ≡ i = omega (arith, at.0) in
-        ap (cell_at (overwritten (bytes_of old dst.0) dst_at filling)) (sym here)
-        ∙ overwritten-inside (bytes_of old dst.0) dst_at filling fits_filling j (omega (arith, filling_len, lt))
-        ∙ get_or-replicate size j byte UNDEFINED lt;
+    inside = λ i w below. filled_at i w;
+    kept = λ i w. kept_exactly (contents_of old dst.0 i) (cell_at (overwritten (bytes_of old dst.0) dst_at filling) i) byte (filled_at i w);
     outside = λ i u. overwritten-outside (bytes_of old dst.0) dst_at filling fits_filling i (elim (out_of_range dst dst_at size end_inside i u) [ inl before ↦ inl before | inr past ↦ inr (omega (arith, filling_len, past)) ]);
     size = length-overwritten (bytes_of old dst.0) dst_at filling fits_filling;
   }
@@ -113,11 +133,13 @@ module _ (old : Objects) (dst : HandleId) (dst_at size byte : ℕ) (end_inside :
 module _ (old new : Objects) (n : Node) (dst : HandleId) (at size : ℕ) (rewrites : Rewrites old new dst.0) (end_inside : at + size ≤ the_end) where
   pub range_executes : ((other i : ℕ) → is_written (Command 0 n) other i ≡ (covers other i (range dst at size) || false))
       → ((i : ℕ) → at ≤ i → i < at + size → AgreesAt (cell_at (bytes_of new dst.0) i) (op_cell (kinds_of old) n.op (contents_of old) dst.0 i))
+      → ((i : ℕ) → at ≤ i → is_written (Command 0 n) dst.0 i ≡ true → KeepsAt (cell_at (bytes_of old dst.0) i) (cell_at (bytes_of new dst.0) i) (op_cell (kinds_of old) n.op (found (Command 0 n) (contents_of old)) dst.0 i))
       → ((i : ℕ) → (i < at) ⊎ (at + size ≤ i) → cell_at (bytes_of new dst.0) i ≡ cell_at (bytes_of old dst.0) i)
       → Executes old new n
-  range_executes in_this agrees stays = executes old new n dst.0 (bytes_of new dst.0) rewrites.sets (record {
+  range_executes in_this agrees keeps stays = executes old new n dst.0 (bytes_of new dst.0) rewrites.sets (record {
     only = λ other i ne. in_this other i ∙ others_unwritten dst at size end_inside other i ne;
     inside = λ i w. let at' = in_range dst at size end_inside i (sym (in_this dst.0 i) ∙ w) in agrees i at'.0 at'.1;
+    kept = λ i w. let at' = in_range dst at size end_inside i (sym (in_this dst.0 i) ∙ w) in keeps i at'.0 w;
     outside = λ i u. stays i (out_of_range dst at size end_inside i (sym (in_this dst.0 i) ∙ u));
     size = rewrites.size;
   })

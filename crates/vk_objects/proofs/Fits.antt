@@ -1,16 +1,20 @@
 -- What follows where a node fits.
-use Rattle.std.proofs.Common.{◌≡◌, ◌≢◌, ℕ, ◌+◌, ◌-◌, ◌*◌, ◌<◌, ◌≤◌, List, length, true, false, sym, ap, subst, arith, inl, inr}
+use Rattle.std.proofs.Common.{◌≡◌, ◌≢◌, ℕ, ◌+◌, ◌-◌, ◌*◌, ◌<◌, ◌≤◌, List, [], ◌∷◌, length, true, false, sym, ap, subst, arith, inl, inr}
 use Rattle.std.specs.Prelude.{◌⊎◌, ◌||◌, ◌==◌, Option, Some, None, option_map, unwrap_or}
+use Rattle.std.specs.List.{AllByRecursion}
 use Rattle.std.proofs.lemmas.Bool.{cases_Bool, cond-true, cond-false}
 use Rattle.std.proofs.Math.Nat.{mul-le-mul_right}
 use Rattle.vk_types.specs.declared.handles.Kind.{Kind}
 use Rattle.vk_types.specs.declared.handles.Kind.TheVariants.{Buffer, Image}
 use Rattle.vk_types.specs.declared.regions.Rect.{Rect}
-use Rattle.vk_types.specs.Touches.{rows_size}
+use Rattle.vk_types.specs.declared.regions.Touch.{Touch}
+use Rattle.vk_types.specs.declared.ops.Node.{Node}
+use Rattle.vk_types.specs.Touches.{rows_size, touches}
 use Rattle.vk_model.specs.Cells.{texel_size}
 use Rattle.vk_model.specs.Fitting.{HasRange, HasRect, HasTexels}
 use Rattle.vk_objects.specs.declared.objects.Object.{Object}
-use Rattle.vk_objects.specs.Objects.{bytes_in, HasSize}
+use Rattle.vk_objects.specs.declared.objects.Objects.{Objects}
+use Rattle.vk_objects.specs.Objects.{kind_of, bytes_in, bytes_of, HasSize, HaveSizes, TouchedHaveSizes}
 
 -- a range of a buffer lies in its bytes
 pub range_inside : (kind : Option Kind) (bytes : List ℕ) (at size : ℕ) → HasRange kind at size → HasSize kind bytes → (0 < size) × (at + size ≤ length bytes)
@@ -58,3 +62,11 @@ pub texels_are : (kind : Option Kind) (size : ℕ) → HasTexels kind size → s
 texels_are None size is = absurd is
 texels_are (Some (Buffer _)) size is = absurd is
 texels_are (Some (Image format width height)) size is = is
+
+-- where each live object has all its bytes, so has each that a node touches
+pub touched_sized : (objects : Objects) (n : Node) → HaveSizes objects → TouchedHaveSizes objects n
+touched_sized objects n sized = go (touches n)
+  where
+    go : (ts : List Touch) → AllByRecursion (λ t. HasSize (kind_of objects t.id.0) (bytes_of objects t.id.0)) ts
+    go [] = tt
+    go (t ∷ ts) = (sized t.id.0, go ts)

@@ -8,3 +8,4 @@ pub mod Fits
 pub mod PassSteps
 pub mod Expanding
 pub mod BlitSteps
+pub mod Finding

@@ -14,8 +14,10 @@ use Rattle.vk_model.specs.Cells.{texel_size, column_at, row_at, byte_at, behind,
 use Rattle.cells.specs.Contents.{AgreesAt}
 use Rattle.vk_model.specs.Fitting.{size_of}
 use Rattle.vk_model.proofs.Images.{behind_in, behind_out}
+use Rattle.vk_objects.specs.Undefined.{KeepsAt}
 use Rattle.vk_objects.specs.declared.shapes.Shape.{Shape}
 use Rattle.vk_objects.specs.Images.{kind_of_shape, whole_rect}
+use Rattle.vk_objects.proofs.Finding.{kept_exactly}
 
 -- one clear more
 pub cleared_push : (kind : Kind) (clears : List Clear) (one : Clear) (i old : ℕ) → cleared kind (clears ++ one ∷ []) i old ≡ clear_image kind one.rect one.texel i (cleared kind clears i old)
@@ -54,7 +56,7 @@ module _ (s : Shape) (texel : List ℕ) (some : 0 < texel_size (kind_of_shape s)
           ∙ sym (cond-false (nat_lt i (size_of kind)) (slice_index texel (byte_at kind i)) old nb)
 
 -- a texel has a byte at least
-some_bytes : (f : Format) → 0 < bytes_per_texel f
+pub some_bytes : (f : Format) → 0 < bytes_per_texel f
 some_bytes R8ui = lit< tt
 some_bytes R8i = lit< tt
 some_bytes R16ui = lit< tt
@@ -82,3 +84,15 @@ cleared_agrees kind [] i a b same = same
 cleared_agrees kind (clear ∷ clears) i a b same =
     cleared_agrees kind clears i (clear_image kind clear.rect clear.texel i a) (clear_image kind clear.rect clear.texel i b)
     (at_both_agrees (behind clear.rect.x clear.rect.w (column_at kind i)) (behind clear.rect.y clear.rect.h (row_at kind i)) (λ x y. slice_index clear.texel (byte_at kind i)) a b same)
+
+-- clears of what is kept keep it
+at_both_keeps : (x y : Option ℕ) (f : ℕ → ℕ → ℕ) (old a b : ℕ) → KeepsAt old a b → KeepsAt old (at_both x y f a) (at_both x y f b)
+at_both_keeps None y f old a b keeps = keeps
+at_both_keeps (Some x) None f old a b keeps = keeps
+at_both_keeps (Some x) (Some y) f old a b keeps = kept_exactly old (f x y) (f x y) refl
+
+pub cleared_keeps : (kind : Kind) (clears : List Clear) (i old a b : ℕ) → KeepsAt old a b → KeepsAt old (cleared kind clears i a) (cleared kind clears i b)
+cleared_keeps kind [] i old a b keeps = keeps
+cleared_keeps kind (clear ∷ clears) i old a b keeps =
+    cleared_keeps kind clears i old (clear_image kind clear.rect clear.texel i a) (clear_image kind clear.rect clear.texel i b)
+    (at_both_keeps (behind clear.rect.x clear.rect.w (column_at kind i)) (behind clear.rect.y clear.rect.h (row_at kind i)) (λ x y. slice_index clear.texel (byte_at kind i)) old a b keeps)

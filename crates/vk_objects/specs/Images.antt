@@ -8,6 +8,7 @@ use Rattle.vk_types.specs.declared.ops.Load.{Load}
 use Rattle.cells.specs.Contents.{AgreesAt, cell_at}
 use Rattle.vk_model.specs.Cells.{texel_size, clear_image, buffer_to_image, copy_image, cleared, loaded}
 use Rattle.vk_model.specs.Fitting.{size_of, LiesInside}
+use Rattle.vk_objects.specs.Undefined.{KeepsAt}
 use Rattle.vk_objects.specs.declared.shapes.Shape.{Shape}
 use Rattle.vk_objects.specs.declared.shapes.Area.{Area}
 
@@ -58,10 +59,12 @@ FitTheImage s clears = All (λ clear. LiesInside clear.rect s.width s.height) cl
 abbrev pub AreClearedBy : List ℕ → List ℕ → Kind → List Clear → Type 0
 AreClearedBy old new kind clears = (i : ℕ) → cell_at new i ≡ cleared kind clears i (cell_at old i)
 
--- each place is as the load leaves it, where it is defined
+-- each place is as the load leaves it, and as it was where that is not defined
 abbrev pub IsLoadedBy : List ℕ → List ℕ → Kind → Load → Type 0
-IsLoadedBy old new kind load' = (i : ℕ) → AgreesAt (cell_at new i) (loaded kind load' i (cell_at old i))
+IsLoadedBy old new kind load' = (i : ℕ) → AgreesAt (cell_at new i) (loaded kind load' i (cell_at old i)) × KeepsAt (cell_at old i) (cell_at new i) (loaded kind load' i (cell_at old i))
 
--- each place is as the load and then the clears leave it, where it is defined
+-- each place is as the load and then the clears leave it, and as it was where that is not defined
 abbrev pub IsPassed : List ℕ → List ℕ → Kind → Load → List Clear → Type 0
-IsPassed old new kind load' clears = (i : ℕ) → AgreesAt (cell_at new i) (cleared kind clears i (loaded kind load' i (cell_at old i)))
+IsPassed old new kind load' clears = (i : ℕ) →
+    AgreesAt (cell_at new i) (cleared kind clears i (loaded kind load' i (cell_at old i)))
+    × KeepsAt (cell_at old i) (cell_at new i) (cleared kind clears i (loaded kind load' i (cell_at old i)))

@@ -1,5 +1,6 @@
 -- Live objects by their numbers, each with its kind and its bytes.
 use Rattle.std.specs.Prelude.{◌≡◌, ◌≢◌, ℕ, ◌<◌, ◌^◌, List, [], length, Option, Some, None, option_map, replicate, unwrap_or}
+use Rattle.std.specs.List.{AllByRecursion}
 use Rattle.std.specs.BTreeMap.{get, btree_map_len}
 use Rattle.std.specs.Ordering.{nat_cmp}
 use Rattle.vk_types.specs.declared.handles.Kind.{Kind}
@@ -10,8 +11,10 @@ use Rattle.vk_model.specs.Log.{Command}
 use Rattle.vk_model.specs.Meaning.{apply, ContentsAgree}
 use Rattle.vk_model.specs.Fitting.{size_of, IsKind}
 use Rattle.vk_types.specs.declared.ops.Node.{Node}
+use Rattle.vk_types.specs.Touches.{touches}
 use Rattle.vk_objects.specs.declared.objects.Object.{Object}
 use Rattle.vk_objects.specs.declared.objects.Objects.{Objects}
+use Rattle.vk_objects.specs.Undefined.{KeepsUndefined}
 
 -- an object whose bytes are all 0
 abbrev pub new_object : Kind → Object
@@ -76,9 +79,15 @@ HasSize (Some kind) bytes = IsKind kind × (length bytes ≡ size_of kind)
 abbrev pub HaveSizes : Objects → Type 0
 HaveSizes objects = (id : ℕ) → HasSize (kind_of objects id) (bytes_of objects id)
 
--- The bytes agree with the contents after the node, and nothing but bytes changed.
+-- so has each object that the node touches
+abbrev pub TouchedHaveSizes : Objects → Node → Type 0
+TouchedHaveSizes objects n = AllByRecursion (λ t. HasSize (kind_of objects t.id.0) (bytes_of objects t.id.0)) (touches n)
+
+-- The bytes agree with the contents after the node, those that are not defined after it are as they were, and nothing but
+-- bytes changed.
 pub record Executes (old new : Objects) (n : Node) : Type 0 where
   pub agree : ContentsAgree (contents_of new) (apply (kinds_of old) (Command 0 n) (contents_of old))
+  pub kept : KeepsUndefined (contents_of old) (contents_of new) (apply (kinds_of old) (Command 0 n) (contents_of old))
   pub kinds : (id : ℕ) → kind_of new id ≡ kind_of old id
   pub sizes : (id : ℕ) → length (bytes_of new id) ≡ length (bytes_of old id)
   pub count : count_of new ≡ count_of old

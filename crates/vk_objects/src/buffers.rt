@@ -23,6 +23,7 @@ pub(crate) fn copy(
     requires apart { src.0 ≡ dst.0 → (src_at + size ≤ dst_at) ⊎ (dst_at + size ≤ src_at) }
     ensures { Executes objects.old objects.new (record { op = CopyBuffer src src_at dst dst_at size }) }
 {
+    let _count = objects.byte_count(src);
     put_copy(objects, src, src_at, dst, dst_at, size);
 }
 

@@ -7,7 +7,7 @@ ghost use Rattle.vk_types.specs.Touches.{rows_size, buffer_texel};
 ghost use Rattle.vk_objects.specs.Images.{IsCleared, AreWritten, AreCopied};
 ghost use Rattle.vk_objects.specs.Blits.{IsBlitted};
 ghost use Rattle.vk_objects.specs.Rows.{row_byte, HasOutRows};
-ghost use Rattle.vk_objects.specs.Objects.{kind_of, bytes_of, kinds_of, HasSize, HaveSizes, Rewrites, Executes};
+ghost use Rattle.vk_objects.specs.Objects.{kind_of, bytes_of, kinds_of, HasSize, Rewrites, Executes};
 
 use crate::Objects;
 use crate::blits::blit;
@@ -134,7 +134,7 @@ fn put_out_rows(
 /// Writes a texel to a rectangle of an image.
 pub(crate) fn clear_image(objects: &mut Objects, image: HandleId, rect: Rect, texel: &[u8; 16])
     requires fits { OpFits (kind_of objects.old) (ClearImage image rect texel.now) }
-    requires sized { HaveSizes objects.old }
+    requires sized { HasSize (kind_of objects.old image.0) (bytes_of objects.old image.0) }
     ensures { Executes objects.old objects.new (record { op = ClearImage image rect texel.now }) }
 {
     put_clear(objects, image, rect, texel);
@@ -150,7 +150,8 @@ pub(crate) fn copy_image(
     rect: Rect,
 )
     requires fits { OpFits (kind_of objects.old) (CopyImage src src_x src_y dst rect) }
-    requires sized { HaveSizes objects.old }
+    requires src_sized { HasSize (kind_of objects.old src.0) (bytes_of objects.old src.0) }
+    requires sized { HasSize (kind_of objects.old dst.0) (bytes_of objects.old dst.0) }
     ensures { Executes objects.old objects.new (record { op = CopyImage src src_x src_y dst rect }) }
 {
     put_image(objects, src, src_x, src_y, dst, rect);
@@ -167,9 +168,11 @@ pub(crate) fn buffer_to_image(
     rect: Rect,
 )
     requires fits { OpFits (kind_of objects.old) (BufferToImage src src_at stride texel_size dst rect) }
-    requires sized { HaveSizes objects.old }
+    requires src_sized { HasSize (kind_of objects.old src.0) (bytes_of objects.old src.0) }
+    requires sized { HasSize (kind_of objects.old dst.0) (bytes_of objects.old dst.0) }
     ensures { Executes objects.old objects.new (record { op = BufferToImage src src_at stride texel_size dst rect }) }
 {
+    let _count = objects.byte_count(src);
     put_rows(objects, src, src_at as usize, stride as usize, dst, rect);
 }
 
@@ -185,7 +188,8 @@ pub(crate) fn image_to_buffer(
     expand: bool,
 )
     requires fits { OpFits (kind_of objects.old) (ImageToBuffer src rect dst dst_at stride texel_size expand) }
-    requires sized { HaveSizes objects.old }
+    requires src_sized { HasSize (kind_of objects.old src.0) (bytes_of objects.old src.0) }
+    requires sized { HasSize (kind_of objects.old dst.0) (bytes_of objects.old dst.0) }
     ensures { Executes objects.old objects.new (record { op = ImageToBuffer src rect dst dst_at stride texel_size expand }) }
 {
     put_out_rows(
@@ -229,7 +233,8 @@ pub(crate) fn blit_image(
     clip: Rect,
 )
     requires fits { OpFits (kind_of objects.old) (BlitImage src dst coords.now clip) }
-    requires sized { HaveSizes objects.old }
+    requires src_sized { HasSize (kind_of objects.old src.0) (bytes_of objects.old src.0) }
+    requires sized { HasSize (kind_of objects.old dst.0) (bytes_of objects.old dst.0) }
     ensures { Executes objects.old objects.new (record { op = BlitImage src dst coords.now clip }) }
 {
     put_blit(objects, src, dst, coords, clip);

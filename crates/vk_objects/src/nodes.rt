@@ -1,6 +1,6 @@
 // What a node does to the bytes of the objects.
 ghost use Rattle.vk_model.specs.Fitting.{NodeFits};
-ghost use Rattle.vk_objects.specs.Objects.{kind_of, HaveSizes, Executes};
+ghost use Rattle.vk_objects.specs.Objects.{kind_of, TouchedHaveSizes, Executes};
 
 use crate::Objects;
 use crate::buffers::{copy, fill};
@@ -12,7 +12,7 @@ use vk_types::{Node, Op};
 /// contents after the node. What it leaves undefined keeps its bytes. This takes no memory.
 pub fn execute(node: &Node, objects: &mut Objects)
     requires fits { NodeFits (kind_of objects.old) node.now }
-    requires sized { HaveSizes objects.old }
+    requires sized { TouchedHaveSizes objects.old node.now }
     ensures { Executes objects.old objects.new node.now }
 {
     match &node.op {

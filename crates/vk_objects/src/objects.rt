@@ -131,6 +131,18 @@ impl Objects {
         }
     }
 
+    /// How many bytes a live object has.
+    pub(crate) fn byte_count(&self, id: HandleId) -> usize
+        requires { IsSome (kind_of self.now id.0) }
+        ensures value { result ≡ length (bytes_of self.now id.0) }
+        ensures small { length (bytes_of self.now id.0) < 2 ^ 64 }
+    {
+        match self.map.get(&id.0) {
+            Some(object) => object.bytes.len(),
+            None => unreachable!(),
+        }
+    }
+
     /// Takes the bytes of a live object, which is left without bytes.
     pub fn take(&mut self, id: HandleId) -> Bytes
         requires { IsSome (kind_of self.old id.0) }

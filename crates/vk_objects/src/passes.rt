@@ -3,7 +3,7 @@ ghost use Rattle.std.specs.Prelude.{All, length};
 ghost use Rattle.vk_model.specs.Fitting.{OpFits, IsImage, HasRect};
 ghost use Rattle.vk_types.specs.declared.ops.Op.TheVariants.{PassPart};
 ghost use Rattle.vk_objects.specs.Images.{kind_of_shape, HasAll, FitTheImage, AreClearedBy, IsLoadedBy, IsPassed};
-ghost use Rattle.vk_objects.specs.Objects.{kind_of, bytes_of, kinds_of, HasSize, HaveSizes, Rewrites, Executes};
+ghost use Rattle.vk_objects.specs.Objects.{kind_of, bytes_of, kinds_of, HasSize, Rewrites, Executes};
 
 use crate::Objects;
 use crate::images::clear;
@@ -67,7 +67,7 @@ pub(crate) fn pass_part(
     clears: &Clears,
 )
     requires fits { OpFits (kind_of objects.old) (PassPart pass point image load keep clears.now) }
-    requires sized { HaveSizes objects.old }
+    requires sized { HasSize (kind_of objects.old image.0) (bytes_of objects.old image.0) }
     ensures { Executes objects.old objects.new (record { op = PassPart pass point image load keep clears.now }) }
 {
     if keep {

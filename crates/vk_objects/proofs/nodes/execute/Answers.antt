@@ -10,3 +10,6 @@ returns-in-PassPart c = subst (λ o. Executes c.args.objects.now c.pass_part.new
 
 pub returns-in-BlitImage : goal.returns-in-BlitImage
 returns-in-BlitImage c = subst (λ o. Executes c.args.objects.now c.blit_image.new.objects (record { op = o })) (sym c.in-BlitImage.is) c.blit_image.ensures
+
+pub returns-in-BufferToImage : goal.returns-in-BufferToImage
+returns-in-BufferToImage c = subst (λ o. Executes c.args.objects.now c.buffer_to_image.new.objects (record { op = o })) (sym c.in-BufferToImage.is) c.buffer_to_image.ensures
