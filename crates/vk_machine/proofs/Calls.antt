@@ -14,6 +14,7 @@ use Rattle.vk_model.specs.Meaning.{apply, ContentsAgree}
 use Rattle.vk_objects.specs.declared.objects.Object.{Object}
 use Rattle.vk_objects.specs.declared.objects.Objects.{Objects}
 use Rattle.vk_objects.specs.Objects as store
+use Rattle.vk_objects.specs.Undefined.{KeepsUndefined}
 use Rattle.vk_ready.specs.declared.nodes.WaitingNode.{WaitingNode}
 use Rattle.vk_ready.specs.Ready.{edge, ready_place, ready_places}
 use Rattle.vk_machine.specs.Choices.{chosen, next_choice}
@@ -25,9 +26,9 @@ use Rattle.vk_device.specs.Journal.{kind_of, ReachesTo}
 use Rattle.vk_device.specs.Order.{log_of, order_of, kinds_of, contents, AllRan}
 use Rattle.vk_device.specs.Effects.{ChangesNothing, ChangesOnly, Executes, HasTurned}
 use Rattle.vk_device.proofs.Fitting.{fits_lives}
-use Rattle.vk_machine.specs.Machine.{MachineModel, Keeps, AreLeft, LiesAt, stored_in, bytes_at, journal_of, bytes_in, waiting_from, RunsReady}
+use Rattle.vk_machine.specs.Machine.{MachineModel, Keeps, AreLeft, LiesAt, stored_in, bytes_at, journal_of, bytes_in, waiting_from, RunsReady, LeavesUndefined}
 use Rattle.vk_machine.proofs.Stored.{stored_bytes}
-use Rattle.vk_machine.proofs.Keeping.{ready, agree}
+use Rattle.vk_machine.proofs.Keeping.{ready, agree, kept}
 
 -- an entry behind a journal
 pub at_end : (P : List Logged → Type 0) (journal reserved now : List Logged) (entry : Logged) → now ≡ reserved ++ entry ∷ [] → reserved ≡ journal → P (journal ++ entry ∷ []) → P now
@@ -66,6 +67,13 @@ module _ (old new : MachineModel) (objects more : Objects) (old_is : old.stored 
         (agree old.journal objects more waiting made batches keeps t w at free ran));
     sizes = λ id. ap length (new_bytes id) ∙ ran.sizes id ∙ ap length (sym (old_bytes id));
   }
+
+  pub kept_turned : (w : WaitingNode) (waiting : List WaitingNode) (made batches : ℕ) (keeps : Keeps old.journal objects waiting made batches) (t : ℕ) (at : slice_get waiting t ≡ Some w)
+      (free : (j : ℕ) (v : WaitingNode) → j < t → slice_get waiting j ≡ Some v → edge v w ≡ false) → store.Executes objects more w.command → LeavesUndefined old new w
+  kept_turned w waiting made batches keeps t at free ran =
+      subst (λ (b : ℕ → List ℕ). KeepsUndefined (contents (bytes_in old)) (contents b) (apply (kinds_of old.journal) (Command w.queue w.command) (contents (bytes_in old)))) (fun_ext (λ id. sym (new_bytes id)))
+      (subst (λ (b : ℕ → List ℕ). KeepsUndefined (contents b) (contents (store.bytes_of more)) (apply (kinds_of old.journal) (Command w.queue w.command) (contents b))) (fun_ext (λ id. sym (old_bytes id)))
+      (kept old.journal objects more waiting made batches keeps t w at free ran))
 
 -- an object that is set twice
 pub sets_twice : (a b c : Objects) (id : ℕ) (xs ys : List ℕ) → store.SetsBytes a b id xs → store.SetsBytes b c id ys → store.SetsBytes a c id ys
@@ -142,6 +150,7 @@ runs_ready seen old new objects more is old_is new_is number w at logged made ba
   at = at;
   turned_is = refl;
   executes = changes_turned seen new objects more old_is new_is w logged seen.waiting made batches keeps (ready_place seen.waiting number) at free ran;
+  kept = kept_turned seen new objects more old_is new_is w seen.waiting made batches keeps (ready_place seen.waiting number) at free ran;
   waiting = others;
 })
 
@@ -169,13 +178,16 @@ length-waiting_from batch node queue [] = refl
 length-waiting_from batch node queue (n ∷ nodes) = ap suc (length-waiting_from batch (suc node) queue nodes)
 
 -- the node that was chosen, whatever result names it
-pub by_choice : (old seen other new : MachineModel) (number : ℕ) (result : Turned) → seen ≡ old → other.waiting ≡ seen.waiting → number ≡ chosen seen.choice (length (ready_places seen.waiting)) → other.choice ≡ next_choice seen.choice → new.choice ≡ other.choice → RunsReady other new number result → TurnsByChoice old new (Ok result)
-by_choice old seen other new number result is waiting_is number_is next same ran =
+pub by_choice : (old seen other new : MachineModel) (number : ℕ) (result : Turned) → seen ≡ old → other.journal ≡ seen.journal → other.stored ≡ seen.stored → other.waiting ≡ seen.waiting → number ≡ chosen seen.choice (length (ready_places seen.waiting)) → other.choice ≡ next_choice seen.choice → new.choice ≡ other.choice → RunsReady other new number result → TurnsByChoice old new (Ok result)
+by_choice old seen other new number result is journal_is stored_is waiting_is number_is next same ran =
     subst (λ m. TurnsByChoice m new (Ok result)) is (subst (λ t. TurnsByChoice seen new (Ok t)) (sym ran.turned_is) (record {
       waiting_node = ran.node;
       at = subst (λ w. slice_get w (ready_place w (chosen seen.choice (length (ready_places seen.waiting)))) ≡ Some ran.node) waiting_is (subst (λ n. slice_get other.waiting (ready_place other.waiting n) ≡ Some ran.node) number_is ran.at);
       batch_is = refl;
       node_is = refl;
       waiting = ran.waiting ∙ ap (λ w. remove w (ready_place w number)) waiting_is ∙ ap (λ n. remove seen.waiting (ready_place seen.waiting n)) number_is;
+      kept =
+          subst (λ j. KeepsUndefined (contents (bytes_in seen)) (contents (bytes_in new)) (apply (kinds_of j) (Command ran.node.queue ran.node.command) (contents (bytes_in seen)))) journal_is
+          (subst (λ s. KeepsUndefined (contents (bytes_at s)) (contents (bytes_in new)) (apply (kinds_of other.journal) (Command ran.node.queue ran.node.command) (contents (bytes_at s)))) stored_is ran.kept);
       choice = same ∙ next;
     }))

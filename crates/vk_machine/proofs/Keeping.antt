@@ -20,6 +20,7 @@ use Rattle.vk_model.proofs.Parts.{length-overwritten}
 use Rattle.vk_objects.specs.declared.objects.Object.{Object}
 use Rattle.vk_objects.specs.declared.objects.Objects.{Objects}
 use Rattle.vk_objects.specs.Objects as store
+use Rattle.vk_objects.specs.Undefined.{KeepsUndefined}
 use Rattle.vk_ready.specs.declared.nodes.WaitingNode.{WaitingNode}
 use Rattle.vk_ready.specs.Ready.{edge}
 use Rattle.vk_device.specs.declared.logged.Logged.{Logged}
@@ -233,21 +234,25 @@ module _ (journal : List Logged) (objects new : Objects) (waiting : List Waiting
         go None is some = absurd (false≢true some)
         go (Some k) is some = ap (λ o. unwrap_or o (Buffer 0)) (keeps.live id ∙ is) ∙ sym (live_kind journal id k is)
 
+    -- what the node makes by the kinds of the store it makes by those of the journal
+    same_after : apply (store.kinds_of objects) (Command w.queue w.command) (contents (store.bytes_of objects)) ≡ apply (kinds_of journal) (Command w.queue w.command) (contents (store.bytes_of objects))
+    same_after = apply_same_kinds (store.kinds_of objects) (kinds_of journal) (Command w.queue w.command) (λ q n id is t. kinds_same id (same_command q n id is t)) (contents (store.bytes_of objects))
+      where
+        node_in : Item → Node → Node
+        node_in (Command q n) other = n
+        node_in (Rattle.vk_model.specs.Log.HostWrite id at bytes) other = other
+        node_in (Rattle.vk_model.specs.Log.Wait q m) other = other
+        node_in (Rattle.vk_model.specs.Log.Signal q m) other = other
+
+        same_command : (q : ℕ) (n : Node) (id : ℕ) → Command w.queue w.command ≡ Command q n → touches_object n id ≡ true → touches_object w.command id ≡ true
+        same_command q n id is t = let same : w.command ≡ n = ap (λ x. node_in x n) is in subst (λ m. touches_object m id ≡ true) (sym same) t
+
     module _ (ran : store.Executes objects new w.command) where
       pub agree : ContentsAgree (contents (store.bytes_of new)) (apply (kinds_of journal) (Command w.queue w.command) (contents (store.bytes_of objects)))
-      agree =
-          subst (ContentsAgree (contents (store.bytes_of new)))
-          (apply_same_kinds (store.kinds_of objects) (kinds_of journal) (Command w.queue w.command) (λ q n id is t. kinds_same id (same_command q n id is t)) (contents (store.bytes_of objects)))
-          ran.agree
-        where
-          node_in : Item → Node → Node
-          node_in (Command q n) other = n
-          node_in (Rattle.vk_model.specs.Log.HostWrite id at bytes) other = other
-          node_in (Rattle.vk_model.specs.Log.Wait q m) other = other
-          node_in (Rattle.vk_model.specs.Log.Signal q m) other = other
+      agree = subst (ContentsAgree (contents (store.bytes_of new))) same_after ran.agree
 
-          same_command : (q : ℕ) (n : Node) (id : ℕ) → Command w.queue w.command ≡ Command q n → touches_object n id ≡ true → touches_object w.command id ≡ true
-          same_command q n id is t = let same : w.command ≡ n = ap (λ x. node_in x n) is in subst (λ m. touches_object m id ≡ true) (sym same) t
+      pub kept : KeepsUndefined (contents (store.bytes_of objects)) (contents (store.bytes_of new)) (apply (kinds_of journal) (Command w.queue w.command) (contents (store.bytes_of objects)))
+      kept = subst (KeepsUndefined (contents (store.bytes_of objects)) (contents (store.bytes_of new))) same_after ran.kept
 
       pub keeps_ran : Keeps (journal ++ Ran w.batch w.node ∷ []) new (remove waiting t) made batches
       keeps_ran =

@@ -6,13 +6,15 @@ use Rattle.std.specs.Ordering.{nat_cmp}
 use Rattle.vk_types.specs.declared.ops.Node.{Node}
 use Rattle.vk_model.specs.Fitting.{NodeFits}
 use Rattle.vk_model.specs.Log.{Command}
+use Rattle.vk_model.specs.Meaning.{apply}
 use Rattle.vk_objects.specs.declared.objects.Object.{Object}
 use Rattle.vk_objects.specs.declared.objects.Objects.{Objects}
 use Rattle.vk_objects.specs.Objects.{bytes_of, HaveSizes}
+use Rattle.vk_objects.specs.Undefined.{KeepsUndefined}
 use Rattle.vk_ready.specs.declared.nodes.WaitingNode.{WaitingNode}
 use Rattle.vk_device.specs.declared.logged.Logged.{Logged}
 use Rattle.vk_device.specs.Journal.{kind_of, accepted, node_at, creates, creates_of}
-use Rattle.vk_device.specs.Order.{log_of, order_of, place_of}
+use Rattle.vk_device.specs.Order.{log_of, order_of, place_of, kinds_of, contents}
 use Rattle.std.specs.List.{remove}
 use Rattle.vk_ready.specs.Ready.{ready_place}
 use Rattle.vk_device.specs.declared.logged.Turned.{Turned}
@@ -82,10 +84,15 @@ abbrev pub waiting_from : (batch node queue : ℕ) → List Node → List Waitin
 waiting_from batch node queue [] = []
 waiting_from batch node queue (command ∷ commands) = (record { batch = batch; node = node; queue = queue; command = command }) ∷ waiting_from batch (suc node) queue commands
 
+-- each byte that is not defined after the node is as it was
+abbrev pub LeavesUndefined : (old new : MachineModel) → WaitingNode → Type 0
+LeavesUndefined old new w = KeepsUndefined (contents (bytes_in old)) (contents (bytes_in new)) (apply (kinds_of old.journal) (Command w.queue w.command) (contents (bytes_in old)))
+
 -- The ready node of this number ran, and is no longer among those that wait.
 pub record RunsReady (old new : MachineModel) (number : ℕ) (turned : Turned) : Type 0 where
   pub node : WaitingNode
   pub at : slice_get old.waiting (ready_place old.waiting number) ≡ Some node
   pub turned_is : turned ≡ Turned.Ran node.batch node.node
   pub executes : Executes journal_of bytes_in old new node.batch node.node
+  pub kept : LeavesUndefined old new node
   pub waiting : new.waiting ≡ remove old.waiting (ready_place old.waiting number)

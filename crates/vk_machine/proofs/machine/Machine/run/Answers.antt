@@ -2,6 +2,7 @@ use Rattle.std.proofs.Common.{◌++◌, [], ◌∷◌, refl, sym, arith, subst}
 use Rattle.vk_ready.specs.Ready.{ready_place}
 use Rattle.vk_device.specs.declared.logged.Logged.TheVariants.{Ran}
 use Rattle.vk_device.specs.Journal.{kind_of}
+use Rattle.vk_objects.proofs.Fits.{touched_sized}
 use Rattle.vk_machine.specs.Machine.{Keeps}
 use Rattle.vk_machine.proofs.Fits.{fits_same}
 use Rattle.vk_machine.proofs.Keeping.{keeps_ran}
@@ -12,6 +13,9 @@ pub execute-requires-clause-fits : goal.execute-requires-clause-fits
 execute-requires-clause-fits c =
     let k = c.self.invariant.0 in
     fits_same (kind_of c.self.inside.journal.items) _ c.take-node.result.command (k.left.each (ready_place c.self.inside.waiting.nodes c.args.number) c.take-node.result c.take-node.ensures.node).fits (λ id t. k.live id)
+
+pub execute-requires-clause-sized : goal.execute-requires-clause-sized
+execute-requires-clause-sized c = touched_sized c.self.inside.objects c.take-node.result.command c.self.invariant.0.sized
 
 pub invariant_of-self : goal.invariant_of-self
 invariant_of-self c = (

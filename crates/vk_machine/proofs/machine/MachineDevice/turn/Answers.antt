@@ -15,4 +15,4 @@ pub returns-clause-turned : goal.returns-clause-turned
 returns-clause-turned c = turned c.args.self.now _ c.run.new.self c.pick-number.result c.run.result (ap (λ (m : MachineModel). m.journal) c.self.view_is) (ap (λ (m : MachineModel). m.stored) c.self.view_is) c.run.ensures.ran
 
 pub returns-clause-chosen : goal.returns-clause-chosen
-returns-clause-chosen c = by_choice c.args.self.now _ _ c.run.new.self c.pick-number.result c.run.result c.self.view_is refl (c.pick-number.ensures.number ∙ ap (chosen c.self.inside.choice) c.ready-ready.ensures.count) c.pick-number.ensures.next c.run.ensures.choice c.run.ensures.ran
+returns-clause-chosen c = by_choice c.args.self.now _ _ c.run.new.self c.pick-number.result c.run.result c.self.view_is refl refl refl (c.pick-number.ensures.number ∙ ap (chosen c.self.inside.choice) c.ready-ready.ensures.count) c.pick-number.ensures.next c.run.ensures.choice c.run.ensures.ran
