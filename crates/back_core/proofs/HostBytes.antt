@@ -15,7 +15,7 @@ use Rattle.back_core.specs.declared.back_event.BackEvent.TheVariants.{Gave, Aban
 use Rattle.back_core.specs.Own.{HostWrote, HostRead}
 use Rattle.back_core.specs.Own as own
 use Rattle.back_core.specs.Link.{Link}
-use Rattle.back_core.specs.History.{queue_history, opening, if_own, link_after, own_part, link_of}
+use Rattle.back_core.specs.History.{queue_history, opening, link_after, own_part, link_of}
 use Rattle.back_core.specs.Frame.{uploaded, host_bytes, bytes_by, IsPartOf, GoesOn}
 use Rattle.back_core.specs.Run.{submission, destroys, covered_in, logged_by, journal_from, journal_of, IsProgress}
 use Rattle.back_core.specs.Steps.{HasGoneOn, cleaned}

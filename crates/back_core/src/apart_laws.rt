@@ -22,7 +22,8 @@ pub fn groups_are_apart()
     ensures alone { (h : List BackEvent) (g : ℕ) → own_part h g ≡ own_part (own_events h g) g }
     ensures same { (h k : List BackEvent) (g : ℕ) → own_events h g ≡ own_events k g → own_part h g ≡ own_part k g }
     // the journal gains the host writes of the group's list, and no others
-    ensures wrote { (h k : List BackEvent) (a : ℕ) (gained : List Own) → GoesOn a (Some h) (Some k) → (link_of k a).mine ≡ (link_of h a).mine ++ gained →
+    ensures wrote { (h k : List BackEvent) (a : ℕ) (gained : List Own) → GoesOn a (Some h) (Some k) →
+        (link_of k a).mine ≡ (link_of h a).mine ++ gained →
         host_bytes (journal_of k) ≡ host_bytes (journal_of h) + uploaded gained }
     // a group that made no object left the objects of the device as they were
     ensures objects { (h k : List BackEvent) (a : ℕ) → IsRun k → GoesOn a (Some h) (Some k) → (link_of k a).kinds ≡ (link_of h a).kinds →

@@ -70,10 +70,12 @@ impl<D: Device> BackLink for Direct<D> {
         requires { HasBatch (link_of self.old.back.history self.old.group) serial.index serial.number }
         ensures gone_on { OnOk result (HasGoneOn self.old.back.history self.new.back.history) }
         ensures stopped { IfErr result (λ stop. HasStopped self.old.back.history self.new.back.history stop) }
-        ensures ok { OnOk result (Waits (link_of self.old.back.history self.old.group) (link_of self.new.back.history self.new.group) serial.index serial.number) }
+        ensures ok { OnOk result (Waits (link_of self.old.back.history self.old.group) (link_of self.new.back.history self.new.group)
+            serial.index serial.number) }
         ensures err { OnErr result (Learns (link_of self.old.back.history self.old.group) (link_of self.new.back.history self.new.group)) }
         ensures cause { HasCause (D.faults self.old.back.device) (D.faults self.new.back.device) result }
-        ensures at_back { AtBack (link_of self.old.back.history self.old.group) (link_of self.new.back.history self.new.group) (Some self.old.back.history) (Some self.new.back.history) 0 true (is_err result) NoBatch }
+        ensures at_back { AtBack (link_of self.old.back.history self.old.group) (link_of self.new.back.history self.new.group)
+            (Some self.old.back.history) (Some self.new.back.history) 0 true (is_err result) NoBatch }
     {
         self.back.wait_for(self.group, serial)
     }
