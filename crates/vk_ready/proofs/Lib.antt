@@ -3,3 +3,5 @@ pub mod Places
 pub mod Rising
 pub mod Watching
 pub mod Order
+pub mod Sharing
+pub mod Buckets

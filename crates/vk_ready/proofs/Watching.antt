@@ -5,7 +5,7 @@ use Rattle.std.proofs.lemmas.Bool.{cases_eq, cases_lt, false≢true}
 use Rattle.std.proofs.lemmas.List.{length-set, get_or-set_same, get_or-set_other, get_or_append_left, length-append}
 use Rattle.vk_ready.specs.declared.nodes.WaitingNode.{WaitingNode}
 use Rattle.vk_ready.proofs.Rising.{few, fewer, rises_pushed, has_pushed}
-use Rattle.vk_ready.specs.Slots.{in_slot, edge_from, IsFreeOf, AreGone, Has, Rises, IsBehind, IsLeft, IsHeld, IsOffered, IsWatched}
+use Rattle.vk_ready.specs.Slots.{in_slot, edge_from, IsFreeOf, AreGone, Has, Rises, AreStarts, IsBehind, IsLeft, IsHeld, IsOffered, IsWatched}
 
 -- nothing stands past the last slot
 in_slot_past : (slots : List (Option WaitingNode)) (k : ℕ) → length slots ≤ k → in_slot slots k ≡ None
@@ -385,3 +385,79 @@ module _ (slots : List (Option WaitingNode)) (holders ends ready : List ℕ) (ke
         all_behind k later at free_k (inl lt) = kept.all k later (sym (below_last slots (Some node) None k lt) ∙ at) (sym (named_below k lt) ∙ free_k)
         all_behind k later at free_k (inr (inl same)) = let e : get_or named k 0 ≡ holder = ap (λ j. get_or named j 0) same ∙ named_last in absurd (omega (arith, e, is, free_k))
         all_behind k later at free_k (inr (inr past)) = let no : in_slot more k ≡ None = past_more k past in absurd (cc)
+
+-- Where the slots that are held by another begin
+
+-- nothing is held
+pub starts_nothing : AreStarts [] []
+starts_nothing = record { size = refl; low = λ k p e. absurd (omega (arith, e)) }
+
+pub watched_nothing : IsWatched [] [] [] [] 0 0 0
+watched_nothing = record {
+  holders_size = refl;
+  ends_size = refl;
+  each = λ k later at. let never : ◌≡◌ {A = Option WaitingNode} None (Some later) = at in absurd (cc);
+  empty = λ k none. refl;
+  rises = tt;
+  offered = λ k h. absurd h;
+  all = λ k later at free. let never : ◌≡◌ {A = Option WaitingNode} None (Some later) = at in absurd (cc);
+}
+
+-- a slot gets another holder
+pub starts_moved : (holders starts starts' : List ℕ) (i holder : ℕ) → AreStarts holders starts → i < length holders → length starts' ≡ length starts → ((p : ℕ) → get_or starts' p 0 ≤ get_or starts p 0)
+    → ((p : ℕ) → holder ≡ suc p → (p < length starts) × (get_or starts' p 0 ≤ i)) → AreStarts (set holders i holder) starts'
+starts_moved holders starts starts' i holder has inside size lowered here = record {
+  size = size ∙ has.size ∙ sym (length-set holders i holder);
+  low = λ k p e. elim (cases_eq k i) [
+    | inl same ↦
+        let held : holder ≡ suc p = sym (ap (λ j. get_or (set holders i holder) j 0) same ∙ get_or-set_same holders i holder 0 inside) ∙ e in
+        let both = here p held in (omega (arith, both.0, size), omega (arith, both.1, same))
+    | inr ne ↦
+        let old = has.low k p (sym (get_or-set_other holders i k holder 0 ne) ∙ e) in
+        let less = lowered p in (omega (arith, old.0, size), omega (arith, old.1, less))
+  ];
+}
+
+-- one more slot
+pub starts_pushed : (holders starts starts' : List ℕ) (holder m : ℕ) → AreStarts holders starts → length starts' ≡ length starts + 1 → ((p : ℕ) → get_or starts' p 0 ≤ get_or (starts ++ m ∷ []) p 0)
+    → ((p : ℕ) → holder ≡ suc p → (p < length starts + 1) × (get_or starts' p 0 ≤ length holders)) → AreStarts (holders ++ holder ∷ []) starts'
+starts_pushed holders starts starts' holder m has size lowered here = record {
+  size = size ∙ ap (λ n. n + 1) has.size ∙ sym (length-append holders (holder ∷ []));
+  low = λ k p e. elim (cases_lt k (length holders)) [
+    | inl below ↦
+        let old = has.low k p (sym (get_or_append_left holders (holder ∷ []) 0 k below) ∙ e) in
+        let less = lowered p in
+        let same : get_or (starts ++ m ∷ []) p 0 ≡ get_or starts p 0 = get_or_append_left starts (m ∷ []) 0 p old.0 in (omega (arith, old.0, size), omega (arith, old.1, less, same))
+    | inr past ↦ elim (cases_eq k (length holders)) [
+      | inl same ↦
+          let held : holder ≡ suc p = sym (ap (λ j. get_or (holders ++ holder ∷ []) j 0) same ∙ at_last holders holder 0) ∙ e in
+          let both = here p held in (omega (arith, both.0, size), omega (arith, both.1, same))
+      | inr ne ↦
+          let none : get_or (holders ++ holder ∷ []) k 0 ≡ 0 = past_end (holders ++ holder ∷ []) k (let longer = length-append holders (holder ∷ []) in omega (arith, longer, past, ne)) in
+          absurd (omega (arith, none, e))
+    ]
+  ];
+}
+
+-- no slot before the start is held by the one that ran
+pub watched_later : (slots : List (Option WaitingNode)) (holders starts ends ready : List ℕ) (gone end start : ℕ) → IsWatched slots holders ends ready gone (gone + 1) end → AreStarts holders starts
+    → ((k : ℕ) → get_or starts gone 0 ≤ k → gone + 1 ≤ k → start ≤ k) → IsWatched slots holders ends ready gone start end
+watched_later slots holders starts ends ready gone end start kept has from = record {
+  holders_size = kept.holders_size;
+  ends_size = kept.ends_size;
+  each = λ k later at. let h = kept.each k later at in record {
+    earlier = h.earlier;
+    free = h.free;
+    held = λ p e. elim (h.held p e) [
+      | inl behind ↦ inl behind
+      | inr left ↦
+          let low = has.low k p e in
+          let first : get_or starts gone 0 ≤ k = subst (λ j. get_or starts j 0 ≤ k) left.is low.1 in
+          inr (record { is = left.is; after = from k first left.after; before = left.before })
+    ];
+  };
+  empty = kept.empty;
+  rises = kept.rises;
+  offered = kept.offered;
+  all = kept.all;
+}

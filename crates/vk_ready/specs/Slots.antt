@@ -56,6 +56,11 @@ pub record IsHeld (slots : List (Option WaitingNode)) (holders ends : List ℕ) 
   pub free : IsFreeOf slots (slice_index holders k) k later
   pub held : (p : ℕ) → slice_index holders k ≡ suc p → IsBehind slots ends p k later ⊎ IsLeft gone from end p k
 
+-- the start of a slot lies not behind any slot that is held by it
+pub record AreStarts (holders starts : List ℕ) : Type 0 where
+  pub size : length starts ≡ length holders
+  pub low : (k p : ℕ) → slice_index holders k ≡ suc p → (p < length starts) × (slice_index starts p ≤ k)
+
 -- a node that waits for no other
 pub record IsOffered (slots : List (Option WaitingNode)) (holders : List ℕ) (k : ℕ) : Type 0 where
   pub node : WaitingNode

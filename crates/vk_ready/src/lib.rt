@@ -6,6 +6,7 @@
 
 mod edges;
 mod laws;
+mod links;
 mod list;
 mod nodes;
 mod watch;

@@ -6,6 +6,7 @@ ghost use Rattle.vk_ready.specs.Ready.{edge, ready_places, ready_place};
 ghost use Rattle.vk_ready.specs.Slots.{waiting_in, in_slot, AreGone};
 
 use crate::WaitingNode;
+use crate::links::{Links, file, last_holder};
 use crate::watch::{Watch, release, watch_next, withdraw};
 use std::alloc::{AllocError, Global};
 use std::marker::Model;
@@ -13,12 +14,14 @@ use std::mem;
 
 /// Nodes that were accepted and have not run, in the order of acceptance. Contracts see the list of them and the room,
 /// which is how many more can be pushed without memory. Each node stands in a slot, which is empty once it ran. A node that
-/// is not ready names the last earlier one with an edge to it, and is looked at again only when that one ran.
+/// is not ready names the last earlier one with an edge to it, and is looked at again only when that one ran. Such a one is
+/// looked for among the nodes that touch the same objects.
 #[derive(Debug, Drop)]
 pub struct WaitingNodes {
     alloc: Global,
     slots: Vec<Option<WaitingNode>>,
     watch: Watch,
+    links: Links,
     first: usize,
     count: usize,
 }
@@ -27,13 +30,21 @@ impl Model for WaitingNodes {
     ghost use Rattle.std.specs.Prelude.{◌≡◌, ◌-◌, ◌≤◌, length, min};
     ghost use Rattle.std.specs.Vec.{vec_len, vec_capacity};
     ghost use Rattle.vk_ready.specs.Ready.{NodesAndRoom};
-    ghost use Rattle.vk_ready.specs.Slots.{waiting_in, AreGone, IsWatched};
+    ghost use Rattle.vk_ready.specs.Slots.{waiting_in, AreGone, AreStarts, IsWatched};
+    ghost use Rattle.vk_ready.specs.Filing.{AreFiled};
 
     ghost Value = { NodesAndRoom };
 
-    ghost view = { λ w. record { nodes = waiting_in w.slots.items; room = min (min (vec_capacity w.slots) (vec_capacity w.watch.holders)) (min (vec_capacity w.watch.ends) (vec_capacity w.watch.ready)) - vec_len w.slots } };
+    ghost view = { λ w. record {
+      nodes = waiting_in w.slots.items;
+      room =
+          min (min (min (vec_capacity w.slots) (vec_capacity w.watch.holders)) (min (vec_capacity w.watch.ends) (vec_capacity w.watch.ready)))
+          (min (vec_capacity w.watch.starts) (min (vec_capacity w.links.filed) (length w.links.heads.items))) - vec_len w.slots;
+    } };
 
-    ghost invariant = { λ w. IsWatched w.slots.items w.watch.holders.items w.watch.ends.items w.watch.ready.items 0 0 0 × AreGone w.slots.items w.first × (w.count ≡ length (waiting_in w.slots.items)) × (vec_len w.slots ≤ vec_capacity w.watch.ready) × (w.first ≤ vec_len w.slots) };
+    ghost invariant = { λ w. IsWatched w.slots.items w.watch.holders.items w.watch.ends.items w.watch.ready.items 0 0 0 × AreGone w.slots.items w.first × (w.count ≡ length (waiting_in w.slots.items)) × (vec_len w.slots ≤ vec_capacity w.watch.ready) × (w.first ≤ vec_len w.slots)
+        × AreStarts w.watch.holders.items w.watch.starts.items × AreFiled w.slots.items w.links.heads.items w.links.filed.items
+        × (vec_len w.slots ≤ vec_len w.links.heads) };
 }
 
 /// Pushes what waits in slots.
@@ -75,8 +86,13 @@ impl WaitingNodes {
             slots: Vec::new(alloc),
             watch: Watch {
                 holders: Vec::new(alloc),
+                starts: Vec::new(alloc),
                 ends: Vec::new(alloc),
                 ready: Vec::new(alloc),
+            },
+            links: Links {
+                heads: Vec::new(alloc),
+                filed: Vec::new(alloc),
             },
             first: 0,
             count: 0,
@@ -92,8 +108,13 @@ impl WaitingNodes {
             slots: Vec::with_capacity(alloc, room)?,
             watch: Watch {
                 holders: Vec::with_capacity(alloc, room)?,
+                starts: Vec::with_capacity(alloc, room)?,
                 ends: Vec::with_capacity(alloc, room)?,
                 ready: Vec::with_capacity(alloc, room)?,
+            },
+            links: Links {
+                heads: vec![in alloc; 0; room]?,
+                filed: Vec::with_capacity(alloc, room)?,
             },
             first: 0,
             count: 0,
@@ -106,7 +127,9 @@ impl WaitingNodes {
     {
         let nodes = self.slots.capacity().min(self.watch.holders.capacity());
         let more = self.watch.ends.capacity().min(self.watch.ready.capacity());
-        nodes.min(more) - self.slots.len()
+        let links = self.links.filed.capacity().min(self.links.heads.len());
+        let others = self.watch.starts.capacity().min(links);
+        nodes.min(more).min(others) - self.slots.len()
     }
 
     /// Makes room for so many more nodes, without the slots of those that ran. For want of memory nothing changes.
@@ -132,7 +155,11 @@ impl WaitingNodes {
         ensures nodes { self.new.nodes ≡ self.old.nodes ++ node ∷ [] }
         ensures room { self.new.room + 1 ≡ self.old.room }
     {
-        watch_next(&mut self.watch, self.slots.as_slice(), self.first, &node);
+        let slot = self.slots.len();
+        file(&mut self.links, &node);
+        let slots = self.slots.as_slice();
+        let holder = last_holder(&self.links, slots, self.first, slot, slot, &node);
+        watch_next(&mut self.watch, slots, holder, &node);
         self.slots.push_reserved(Some(node));
         self.count += 1;
     }
@@ -176,6 +203,7 @@ impl WaitingNodes {
         let end = self.watch.ends[slot].min(self.slots.len());
         release(
             &mut self.watch,
+            &self.links,
             self.slots.as_slice(),
             self.first,
             slot,

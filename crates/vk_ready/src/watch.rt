@@ -1,49 +1,20 @@
 // For which earlier node each waiting node waits.
 ghost use Rattle.std.specs.Prelude.{◌≡◌, ◌≤◌, ◌<◌, ◌+◌, ◌⊎◌, ◌↔◌, ℕ, suc, true, [], ◌∷◌, ◌++◌, length, slice_index, Some, None};
 ghost use Rattle.std.specs.Vec.{vec_len, vec_capacity};
-ghost use Rattle.vk_ready.specs.Slots.{edge_from, in_slot, IsFreeOf, AreGone, Has, Rises, IsWatched};
+ghost use Rattle.vk_ready.specs.Filing.{AreFiled};
+ghost use Rattle.vk_ready.specs.Slots.{edge_from, in_slot, IsFreeOf, AreGone, Has, Rises, AreStarts, IsWatched};
 
 use crate::WaitingNode;
-use crate::edges::has_edge;
+use crate::links::{Links, last_holder};
 
-/// For each slot the last earlier one whose node has an edge to its node, and which slots have none such. A node looks
-/// for another one only when that one ran.
+/// For each slot the last earlier one whose node has an edge to its node, between which slots those lie that are held by it,
+/// and which slots have none such. A node looks for another one only when that one ran.
 #[derive(Debug, Drop)]
 pub(crate) struct Watch {
     pub(crate) holders: Vec<usize>,
+    pub(crate) starts: Vec<usize>,
     pub(crate) ends: Vec<usize>,
     pub(crate) ready: Vec<usize>,
-}
-
-/// Whether the node of a slot has an edge to a later one.
-fn slot_has_edge(slot: &Option<WaitingNode>, later: &WaitingNode) -> bool
-    ensures { result ≡ edge_from slot.now later.now }
-{
-    match slot {
-        Some(earlier) => has_edge(earlier, later),
-        None => false,
-    }
-}
-
-/// The number of the last slot before the end whose node has an edge to the later one, plus 1. Gives 0 where there is none.
-pub(crate) fn last_holder(
-    slots: &[Option<WaitingNode>],
-    first: usize,
-    end: usize,
-    later: &WaitingNode,
-) -> usize
-    requires inside { end ≤ length slots.now }
-    requires gone { AreGone slots.now first }
-    ensures inside { result ≤ end }
-    ensures free { IsFreeOf slots.now result end later.now }
-    ensures waits { (p : ℕ) → result ≡ suc p → edge_from (in_slot slots.now p) later.now ≡ true }
-{
-    for k in (first..end).rev() {
-        if slot_has_edge(&slots[k], later) {
-            return k + 1;
-        }
-    }
-    0
 }
 
 /// Puts a slot among the ready ones.
@@ -91,51 +62,76 @@ fn raise(ends: &mut Vec<usize>, holder: usize, slot: usize)
     }
 }
 
-/// Finds for the node that is to stand in the next slot for which earlier one it waits.
+/// Lets a slot name another, from which on the slots that wait for its node are found.
+fn lower(starts: &mut Vec<usize>, holder: usize, slot: usize)
+    requires inside { holder < length starts.old.items }
+    ensures seen { slice_index starts.new.items holder ≤ slot }
+    ensures lowered { (p : ℕ) → slice_index starts.new.items p ≤ slice_index starts.old.items p }
+    ensures size { length starts.new.items ≡ length starts.old.items }
+    ensures capacity { vec_capacity starts.new ≡ vec_capacity starts.old }
+{
+    if starts[holder] > slot {
+        starts[holder] = slot;
+    }
+}
+
+/// Lets the node that is to stand in the next slot wait for its holder, the last earlier slot with an edge to it, plus 1.
 pub(crate) fn watch_next(
     watch: &mut Watch,
     slots: &[Option<WaitingNode>],
-    first: usize,
+    holder: usize,
     node: &WaitingNode,
 )
-    requires gone { AreGone slots.now first }
+    requires inside { holder ≤ length slots.now }
+    requires free { IsFreeOf slots.now holder (length slots.now) node.now }
+    requires waits { (p : ℕ) → holder ≡ suc p → edge_from (in_slot slots.now p) node.now ≡ true }
     requires kept { IsWatched slots.now watch.old.holders.items watch.old.ends.items watch.old.ready.items 0 0 0 }
+    requires starts { AreStarts watch.old.holders.items watch.old.starts.items }
     requires holders { length slots.now < vec_capacity watch.old.holders }
+    requires starts_capacity { length slots.now < vec_capacity watch.old.starts }
     requires ends { length slots.now < vec_capacity watch.old.ends }
     requires ready { length slots.now < vec_capacity watch.old.ready }
     ensures kept { IsWatched (slots.now ++ Some node.now ∷ []) watch.new.holders.items watch.new.ends.items watch.new.ready.items 0 0 0 }
+    ensures starts { AreStarts watch.new.holders.items watch.new.starts.items }
     ensures holders { vec_capacity watch.new.holders ≡ vec_capacity watch.old.holders }
+    ensures starts_capacity { vec_capacity watch.new.starts ≡ vec_capacity watch.old.starts }
     ensures ends { vec_capacity watch.new.ends ≡ vec_capacity watch.old.ends }
     ensures ready { vec_capacity watch.new.ready ≡ vec_capacity watch.old.ready }
 {
     let slot = slots.len();
-    let holder = last_holder(slots, first, slot, node);
     watch.holders.push_reserved(holder);
+    watch.starts.push_reserved(usize::MAX);
     watch.ends.push_reserved(0);
     if holder == 0 {
         watch.ready.push_reserved(slot);
     } else {
         raise(&mut watch.ends, holder - 1, slot);
+        lower(&mut watch.starts, holder - 1, slot);
     }
 }
 
 /// Lets a slot whose node waited for the one that ran look for another, and be ready where there is none.
 fn settle(
     watch: &mut Watch,
+    links: &Links,
     slots: &[Option<WaitingNode>],
     first: usize,
     gone: usize,
     slot: usize,
     end: usize,
 )
+    requires filed { AreFiled slots.now links.now.heads.items links.now.filed.items }
     requires gone { AreGone slots.now first }
     requires empty { in_slot slots.now gone ≡ None }
     requires after { gone < slot }
     requires inside { slot < length slots.now }
     requires kept { IsWatched slots.now watch.old.holders.items watch.old.ends.items watch.old.ready.items gone slot end }
+    requires starts { AreStarts watch.old.holders.items watch.old.starts.items }
     requires room { length slots.now ≤ vec_capacity watch.old.ready }
     ensures kept { IsWatched slots.now watch.new.holders.items watch.new.ends.items watch.new.ready.items gone (slot + 1) end }
+    ensures starts { AreStarts watch.new.holders.items watch.new.starts.items }
     ensures holders { vec_capacity watch.new.holders ≡ vec_capacity watch.old.holders }
+    ensures starts_capacity { vec_capacity watch.new.starts ≡ vec_capacity watch.old.starts }
     ensures ends { vec_capacity watch.new.ends ≡ vec_capacity watch.old.ends }
     ensures ready { vec_capacity watch.new.ready ≡ vec_capacity watch.old.ready }
 {
@@ -143,7 +139,7 @@ fn settle(
         return;
     }
     let holder = match &slots[slot] {
-        Some(later) => last_holder(slots, first, gone, later),
+        Some(later) => last_holder(links, slots, first, slot, gone, later),
         None => unreachable!(),
     };
     watch.holders[slot] = holder;
@@ -151,29 +147,36 @@ fn settle(
         offer(&mut watch.ready, slot);
     } else {
         raise(&mut watch.ends, holder - 1, slot);
+        lower(&mut watch.starts, holder - 1, slot);
     }
 }
 
 /// Lets all that waited for the node that ran look for another.
 pub(crate) fn release(
     watch: &mut Watch,
+    links: &Links,
     slots: &[Option<WaitingNode>],
     first: usize,
     gone: usize,
     end: usize,
 )
+    requires filed { AreFiled slots.now links.now.heads.items links.now.filed.items }
     requires gone { AreGone slots.now first }
     requires empty { in_slot slots.now gone ≡ None }
     requires inside { end ≤ length slots.now }
     requires few { gone < length slots.now }
     requires kept { IsWatched slots.now watch.old.holders.items watch.old.ends.items watch.old.ready.items gone (gone + 1) end }
+    requires starts { AreStarts watch.old.holders.items watch.old.starts.items }
     requires room { length slots.now ≤ vec_capacity watch.old.ready }
     ensures kept { IsWatched slots.now watch.new.holders.items watch.new.ends.items watch.new.ready.items 0 0 0 }
+    ensures starts { AreStarts watch.new.holders.items watch.new.starts.items }
     ensures holders { vec_capacity watch.new.holders ≡ vec_capacity watch.old.holders }
+    ensures starts_capacity { vec_capacity watch.new.starts ≡ vec_capacity watch.old.starts }
     ensures ends { vec_capacity watch.new.ends ≡ vec_capacity watch.old.ends }
     ensures ready { vec_capacity watch.new.ready ≡ vec_capacity watch.old.ready }
 {
-    for slot in gone + 1..end {
-        settle(watch, slots, first, gone, slot, end);
+    let start = watch.starts[gone].max(gone + 1);
+    for slot in start..end {
+        settle(watch, links, slots, first, gone, slot, end);
     }
 }

@@ -7,6 +7,8 @@ use Rattle.std.proofs.lemmas.Option.{slice_get_within}
 use Rattle.vk_ready.specs.declared.nodes.WaitingNode.{WaitingNode}
 use Rattle.vk_ready.specs.Ready.{NodesAndRoom, edge, ready_place, ready_places}
 use Rattle.vk_ready.specs.Slots.{in_slot, waiting_in, AreGone, IsWatched}
+use Rattle.vk_ready.specs.Filing.{AreFiled}
+use Rattle.vk_ready.proofs.Buckets.{filed_emptied}
 use Rattle.vk_ready.proofs.Watching.{gone_on, emptied, watched_left}
 use Rattle.vk_ready.proofs.Order.{ready_total, taken_at, IsTaken, at_rank, without, rank}
 use Rattle.vk_ready.proofs.list.WaitingNodes.take.Goals as goal
@@ -58,6 +60,12 @@ release-requires-clause-empty c =
     let after : set w.slots.items c.withdraw-slot.result c.replace.new.dest ≡ set w.slots.items c.withdraw-slot.result None = ap (set w.slots.items c.withdraw-slot.result) c.replace.ensures.after in
     subst (λ l. in_slot l c.withdraw-slot.result ≡ None) (sym (c.as_slice-2.ensures.value ∙ after)) (emptied w.slots.items c.withdraw-slot.result)
 
+pub release-requires-clause-filed : goal.release-requires-clause-filed
+release-requires-clause-filed c =
+    let w = c.self.inside in
+    let after : set w.slots.items c.withdraw-slot.result c.replace.new.dest ≡ set w.slots.items c.withdraw-slot.result None = ap (set w.slots.items c.withdraw-slot.result) c.replace.ensures.after in
+    subst (λ l. AreFiled l w.links.heads.items w.links.filed.items) (sym (c.as_slice-2.ensures.value ∙ after)) (filed_emptied w.slots.items w.links.heads.items w.links.filed.items c.withdraw-slot.result c.self.invariant.6)
+
 pub release-requires-clause-gone : goal.release-requires-clause-gone
 release-requires-clause-gone c =
     subst (λ l. AreGone l c.first_waiting-self-inside.result) (c.as_slice.ensures.value ∙ sym c.as_slice-2.ensures.value) c.first_waiting-self-inside.ensures.gone
@@ -105,6 +113,9 @@ invariant_of-self c =
       omega (arith, fewer, counted, ap length left),
       omega arith,
       omega arith,
+      c.release.ensures.starts,
+      subst (λ l. AreFiled l w.links.heads.items w.links.filed.items) (sym after) (filed_emptied w.slots.items w.links.heads.items w.links.filed.items c.withdraw-slot.result c.self.invariant.6),
+      (let few = c.self.invariant.7 in omega (arith, few)),
     )
 
 pub returns-clause-node : goal.returns-clause-node
