@@ -1,4 +1,6 @@
-// Worked traces on devices of many orders, texts that are refused, and sources, sinks and devices that fail.
+// Worked traces on devices of many orders, texts that are refused, and sources, sinks and devices that fail; the words of the
+// command line.
+mod command_words;
 mod failures;
 mod rows;
 mod running;
