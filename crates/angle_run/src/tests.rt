@@ -2,6 +2,7 @@
 // command line.
 mod command_words;
 mod failures;
+mod groups;
 mod rows;
 mod running;
 mod texts;

@@ -44,7 +44,23 @@ pub(crate) fn words(alloc: Global, list: &[&str]) -> Result<Vec<String>, AllocEr
     Ok(words)
 }
 
-/// Runs a text on a device, with room for all replies, and gives the status, what was written, and the device.
+/// Runs a text by the words of a command on a device, with room for all replies, and gives the status, what was written, and the device.
+pub(crate) fn run_by<D: Device + Drop>(
+    alloc: Global,
+    list: &[&str],
+    text: Vec<u8>,
+    device: D,
+) -> Result<(Status, MemorySink, D), AllocError>
+    requires { D.journal device ≡ [] }
+{
+    let words = words(alloc, list)?;
+    let mut source = MemorySource::new(text, Vec::new(alloc));
+    let mut sink = MemorySink::new(alloc, 1_048_576, 65_536, Vec::new(alloc))?;
+    let (status, device) = run_once(alloc, &words, &mut source, &mut sink, device);
+    Ok((status, sink, device))
+}
+
+/// Runs a text on a device by the schedule of the seed 0.
 pub(crate) fn run_on<D: Device + Drop>(
     alloc: Global,
     text: Vec<u8>,
@@ -52,9 +68,5 @@ pub(crate) fn run_on<D: Device + Drop>(
 ) -> Result<(Status, MemorySink, D), AllocError>
     requires { D.journal device ≡ [] }
 {
-    let words = words(alloc, &["once", "--seed", "0"])?;
-    let mut source = MemorySource::new(text, Vec::new(alloc));
-    let mut sink = MemorySink::new(alloc, 1_048_576, 65_536, Vec::new(alloc))?;
-    let (status, device) = run_once(alloc, &words, &mut source, &mut sink, device);
-    Ok((status, sink, device))
+    run_by(alloc, &["once", "--seed", "0"], text, device)
 }

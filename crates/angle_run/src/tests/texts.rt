@@ -70,21 +70,6 @@ fn a_call_that_is_not_built_is_refused_at_its_line(rt: HostRuntime) -> Result<()
 }
 
 #[test]
-fn a_second_thread_is_refused(rt: HostRuntime) -> Result<(), Fail> {
-    let alloc = rt.alloc();
-    let text = joined(
-        alloc,
-        "angle-trace 1\nthread 0 group 0\nthread 1 group 0\n",
-        "begin\n0 ecreate 1\n",
-        "end\n",
-    )?;
-    let (status, sink) = written(alloc, text)?;
-    assert!(rt; status == Status::Trace { line: 0, kind: 10 });
-    assert!(rt; sink.bytes() == "angle-reply 1\nrefused 0 10\n".as_bytes());
-    Ok(())
-}
-
-#[test]
 fn other_words_get_the_usage(rt: HostRuntime) -> Result<(), Fail> {
     let alloc = rt.alloc();
     let usage = "usage: angle_run once --seed N [--summary] | threads --workers N | gen N\n";
