@@ -1,0 +1,11 @@
+pub mod Lists
+pub mod Laws
+pub mod BackSteps
+pub mod Fronts
+pub mod Dues
+pub mod Noted
+pub mod Calls
+pub mod Worlds
+pub mod ClosingAll
+pub mod Starts
+pub mod LettingGo

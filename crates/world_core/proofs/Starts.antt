@@ -1,0 +1,169 @@
+-- What a world begins with.
+use Rattle.std.proofs.Common.{◌≡◌, ◌≢◌, ℕ, suc, zero, ◌+◌, ◌≤◌, ◌<◌, ◌==◌, Bool, true, false, List, [], ◌∷◌, ◌++◌, length, get_or, map, take, drop, replicate, Some, None, refl, sym, ap, ◌∙◌, subst, arith, eq-eqb, cond}
+use Rattle.std.specs.Prelude.{slice_get, Option, unwrap_or, IsSome}
+use Rattle.std.specs.Option.{option_map}
+use Rattle.std.proofs.Math.Dec.{eqb}
+use Rattle.std.proofs.Math.Path.{fun_ext}
+use Rattle.std.proofs.lemmas.Bool.{eqb-true, false≢true}
+use Rattle.std.proofs.lemmas.List.{at_drop_more}
+use Rattle.std.proofs.lemmas.Option.{slice_get-map, slice_get-get_or, slice_get_within, slice_get_past}
+use Rattle.gl_calls.specs.declared.reply.Entry.{Entry}
+use Rattle.vk_device.specs.declared.logged.Logged.{Logged}
+use Rattle.trace_text.specs.declared.trace.Line.{Line}
+use Rattle.trace_text.specs.declared.trace.ThreadPlan.{ThreadPlan}
+use Rattle.trace_text.specs.Reading.{Plan, plan}
+use Rattle.trace_text.specs.Orders.{HasLine, IsLineOf}
+use Rattle.back_core.specs.declared.back_event.BackEvent.{BackEvent}
+use Rattle.back_core.specs.Link.{IsNew}
+use Rattle.back_core.specs.History.{link_of}
+use Rattle.back_core.specs.Frame.{IsGoing, host_bytes}
+use Rattle.back_core.specs.Run.{journal_of}
+use Rattle.back_core.specs.Steps.{CleansWhole}
+use Rattle.front_model.specs.Stands.{Owns}
+use Rattle.front_moves.specs.Core.{face}
+use Rattle.front_core.specs.Front.{FrontModel, FrontStands, IsNewFront}
+use Rattle.play_model.specs.Plays.{Play, HasPlayed, none_done, members, members_from, opening_play, is_answered}
+use Rattle.world_core.specs.World.{IsServed, history_at, play_at, group_numbers, due_in}
+use Rattle.world_core.specs.Inside.{AreNew, OwnTheirs, AreFronts, Goes, Keeps, histories_of, played_of}
+use Rattle.world_core.proofs.Fronts.{stands_own}
+
+-- no line of any thread was answered
+pub none_done_is : (threads : List ThreadPlan) → replicate (length threads) 0 ≡ none_done (map plan threads)
+none_done_is [] = refl
+none_done_is (thread ∷ threads) = ap (λ (l : List ℕ). 0 ∷ l) (none_done_is threads)
+
+-- the line of a thread's plan is one of its lines
+pub line_in : (threads : List ThreadPlan) (thread place : ℕ) (line : Line) (of : ThreadPlan) → slice_get threads thread ≡ Some of → IsLineOf (map plan threads) thread place line →
+    slice_get of.lines.items place ≡ Some line
+line_in threads thread place line of at is =
+    let here : Some (plan of) ≡ Some is.plan = sym (slice_get-map plan threads thread ∙ ap (option_map plan) at) ∙ is.is_thread in
+    let same : plan of ≡ is.plan = cc in
+    subst (λ (p : Plan). slice_get p.lines place ≡ Some line) (sym same) is.is_line
+
+pub thread_within : (threads : List ThreadPlan) (thread place : ℕ) (line : Line) → IsLineOf (map plan threads) thread place line → thread < length threads
+thread_within [] thread place line is = absurd (none thread is.is_thread)
+  where
+    none : (t : ℕ) → slice_get [] t ≡ Some is.plan → ⊥
+    none t e = absurd (cc)
+thread_within (of ∷ threads) zero place line is = omega arith
+thread_within (of ∷ threads) (suc thread) place line is =
+    let low : thread < length threads = thread_within threads thread place line (record { plan = is.plan; is_thread = is.is_thread; is_line = is.is_line }) in
+    omega (arith, low)
+
+-- The members of a group
+
+pub members_more : (threads : List ThreadPlan) (i : ℕ) (d : ThreadPlan) (group : ℕ) → i < length threads → d ≡ get_or threads i d →
+    members_from i (map plan (drop i threads)) group ≡ cond (d.group == group) (i ∷ members_from (i + 1) (map plan (drop (i + 1) threads)) group) (members_from (i + 1) (map plan (drop (i + 1) threads)) group)
+members_more threads i d group low is =
+    at_drop_more (λ (l : List ThreadPlan). members_from i (map plan l) group) threads i d low
+    ∙ ap (λ (t : ThreadPlan). members_from i (map plan (t ∷ drop (i + 1) threads)) group) (sym is)
+
+-- New fronts
+
+pub new_none : (threads : List Plan) → AreNew threads []
+new_none threads group front at = absurd (cc)
+
+pub new_more : (threads : List Plan) (fronts : List FrontModel) (group : ℕ) (front : FrontModel) → length fronts ≡ group → AreNew threads fronts → IsNewFront front group (members threads group) →
+    AreNew threads (fronts ++ front ∷ [])
+new_more threads fronts group front count new is other f at = by (eqb other group) refl
+  where
+    past : (l : List FrontModel) (x : FrontModel) → slice_get (l ++ x ∷ []) (length l) ≡ Some x
+    past [] x = refl
+    past (y ∷ l) x = past l x
+
+    before : (l : List FrontModel) (x : FrontModel) (i : ℕ) → i ≢ length l → slice_get (l ++ x ∷ []) i ≡ slice_get l i
+    before [] x zero ne = absurd (ne refl)
+    before [] x (suc i) ne = refl
+    before (y ∷ l) x zero ne = refl
+    before (y ∷ l) x (suc i) ne = before l x i (λ e. ne (ap suc e))
+
+    by : (b : Bool) → eqb other group ≡ b → IsNewFront f other (members threads other)
+    by true same =
+        let here : other ≡ group = eqb-true other group same in
+        let e : Some front ≡ Some f = sym (past fronts front) ∙ ap (slice_get (fronts ++ front ∷ [])) (count ∙ sym here) ∙ at in
+        let front_is : front ≡ f = cc in
+        subst (λ (n : ℕ). IsNewFront f n (members threads n)) (sym here) (subst (λ (x : FrontModel). IsNewFront x group (members threads group)) front_is is)
+    by false same =
+        let ne : other ≢ length fronts = λ e. false≢true (sym same ∙ eq-eqb other group (e ∙ count)) in
+        new other f (sym (before fronts front other ne) ∙ at)
+
+abbrev pub NewLinks : Type 0
+NewLinks = (g : ℕ) → IsNew (link_of [] g) g
+
+pub new_own : NewLinks → (threads : List Plan) (fronts : List FrontModel) (h : List BackEvent) → h ≡ [] → AreNew threads fronts → OwnTheirs fronts h
+new_own law threads fronts h empty new group front at =
+    subst (λ (i : List BackEvent). Owns (face front.core).objects (link_of i group)) (sym empty)
+    (stands_own front (link_of [] group) ((new group front at).stands (link_of [] group) (law group)))
+
+-- The histories of new fronts are empty
+
+new_history : (threads : List Plan) (fronts : List FrontModel) → AreNew threads fronts → (group : ℕ) → history_at (histories_of fronts) group ≡ []
+new_history threads fronts new group = ap (λ (o : Option (List Entry)). unwrap_or o []) (slice_get-map (λ (f : FrontModel). f.history) fronts group) ∙ by (slice_get fronts group) refl
+  where
+    by : (o : Option FrontModel) → slice_get fronts group ≡ o → unwrap_or (option_map (λ (f : FrontModel). f.history) o) [] ≡ []
+    by None at = refl
+    by (Some front) at = (new group front at).empty
+
+pub new_histories : (threads : List Plan) (fronts : List FrontModel) → length fronts ≡ 8 → AreNew threads fronts → histories_of fronts ≡ map (λ group. []) group_numbers
+new_histories threads (a ∷ b ∷ c ∷ d ∷ e ∷ f ∷ g ∷ h ∷ []) eight new =
+    eight_same (new 0 a refl).empty (new 1 b refl).empty (new 2 c refl).empty (new 3 d refl).empty (new 4 e refl).empty (new 5 f refl).empty (new 6 g refl).empty (new 7 h refl).empty
+  where
+    eight_same : {p q r s t u v w : List Entry} → p ≡ [] → q ≡ [] → r ≡ [] → s ≡ [] → t ≡ [] → u ≡ [] → v ≡ [] → w ≡ [] →
+        p ∷ q ∷ r ∷ s ∷ t ∷ u ∷ v ∷ w ∷ [] ≡ [] ∷ [] ∷ [] ∷ [] ∷ [] ∷ [] ∷ [] ∷ [] ∷ []
+    eight_same i j k l m n o x = cc
+new_histories threads [] eight new = absurd (omega (arith, eight))
+new_histories threads (a ∷ []) eight new = absurd (omega (arith, eight))
+new_histories threads (a ∷ b ∷ []) eight new = absurd (omega (arith, eight))
+new_histories threads (a ∷ b ∷ c ∷ []) eight new = absurd (omega (arith, eight))
+new_histories threads (a ∷ b ∷ c ∷ d ∷ []) eight new = absurd (omega (arith, eight))
+new_histories threads (a ∷ b ∷ c ∷ d ∷ e ∷ []) eight new = absurd (omega (arith, eight))
+new_histories threads (a ∷ b ∷ c ∷ d ∷ e ∷ f ∷ []) eight new = absurd (omega (arith, eight))
+new_histories threads (a ∷ b ∷ c ∷ d ∷ e ∷ f ∷ g ∷ []) eight new = absurd (omega (arith, eight))
+new_histories threads (a ∷ b ∷ c ∷ d ∷ e ∷ f ∷ g ∷ h ∷ i ∷ more) eight new = absurd (omega (arith, eight))
+
+-- The first moment
+
+none_written : (n : ℕ) → host_bytes [] ≤ n
+unfolding host_bytes
+none_written n = omega arith
+
+play_with : List ℕ → (ℕ → List Entry) → Play
+play_with d hs = record { done = d; histories = hs }
+
+module _ (links : NewLinks) (whole : CleansWhole []) (going : IsGoing (Some [])) (opening : journal_of [] ≡ [])
+    (plays : (threads : List Plan) → HasPlayed threads (opening_play threads)) where
+  begins_empty : (threads : List Plan) (done : List ℕ) (answered : List Bool) (fronts : List FrontModel) → IsServed threads → done ≡ none_done threads →
+      ((thread place : ℕ) (line : Line) → IsLineOf threads thread place line → slice_get answered line.number ≡ Some false) →
+      length fronts ≡ 8 → AreNew threads fronts → Keeps threads done answered fronts [] true
+  begins_empty threads done answered fronts served none unanswered eight new =
+      let histories : (λ group. history_at (histories_of fronts) group) ≡ (λ group. []) = fun_ext (new_history threads fronts new) in
+      let same : opening_play threads ≡ played_of done fronts
+      = ap (λ (hs : ℕ → List Entry). play_with (none_done threads) hs) (sym histories) ∙ ap (λ (d : List ℕ). play_at d (histories_of fronts)) (sym none) in
+      record {
+        served = served;
+        played = subst (HasPlayed threads) same (plays threads);
+        noted = λ group number has. subst (λ (h : List Entry). slice_get answered number ≡ Some (is_answered h number)) (sym (new_history threads fronts new group))
+            (subst (λ (n : ℕ). slice_get answered n ≡ Some false) has.numbered (unanswered has.thread has.place has.line has.is));
+        fronts_are = record { eight = eight; each = λ group front at. record {
+          threads_are = (new group front at).threads_are;
+          owns = new_own links threads fronts [] refl new group front at;
+        } };
+        runs = λ on. record {
+          goes = record {
+            stand = λ group front at. (new group front at).stands (link_of [] group) (links group);
+            going = going;
+            whole = whole;
+            no_others = λ group high. refl;
+          };
+          uploads = few;
+        };
+      }
+    where
+      few : host_bytes (journal_of []) ≤ due_in threads (played_of done fronts)
+      few = subst (λ (l : List Logged). host_bytes l ≤ due_in threads (played_of done fronts)) (sym opening) (none_written (due_in threads (played_of done fronts)))
+
+  pub begins : (threads : List Plan) (done : List ℕ) (answered : List Bool) (fronts : List FrontModel) (h : List BackEvent) → h ≡ [] → IsServed threads → done ≡ none_done threads →
+      ((thread place : ℕ) (line : Line) → IsLineOf threads thread place line → slice_get answered line.number ≡ Some false) →
+      length fronts ≡ 8 → AreNew threads fronts → Keeps threads done answered fronts h true
+  begins threads done answered fronts h empty served none unanswered eight new =
+      subst (λ (i : List BackEvent). Keeps threads done answered fronts i true) (sym empty) (begins_empty threads done answered fronts served none unanswered eight new)

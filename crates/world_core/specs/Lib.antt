@@ -1,0 +1,4 @@
+pub mod World
+pub mod Steps
+pub mod Ends
+pub mod Inside
