@@ -14,7 +14,7 @@ use Rattle.back_core.specs.declared.ending.Step.TheVariants as step
 use Rattle.back_core.specs.Frame.{IsPartOf, GoesOn, IsGoing, host_bytes}
 use Rattle.back_core.specs.Run.{IsProgress, journal_of}
 use Rattle.back_core.specs.Back.{ending_of, is_stopped, stopped_by}
-use Rattle.back_core.specs.Steps.{CleansWhole, HasGoneOn, Submits, Turns, RetiresOne, cleaned}
+use Rattle.back_core.specs.Steps.{CleansWhole, HasGoneOn, HasStopped, Submits, Turns, RetiresOne, cleaned}
 use Rattle.world_core.specs.Inside.{LeavesGroups, StaysWell}
 use Rattle.world_core.proofs.Laws.{Apart, Outside, BatchesGoOn}
 
@@ -124,3 +124,7 @@ well_cleaned going write h k read count is whole = record {
   whole = whole;
   written = ap (λ (i : List BackEvent). host_bytes (journal_of i)) is ∙ write h read count;
 }
+
+-- the batches went on until a stop came
+pub leaves_halted : Apart → (h k : List BackEvent) (stop : Stop) → HasStopped h k stop → LeavesGroups h k
+leaves_halted laws h k stop halted = leaves_then h halted.before k (leaves_batches laws h halted.before halted.gone_on) (leaves_stop laws halted.before k stop halted.is)

@@ -1,9 +1,9 @@
 -- A thread's next line was answered, or its front was stopped.
 use Rattle.std.proofs.Common.{◌≡◌, ◌≢◌, ℕ, ◌+◌, ◌≤◌, ◌<◌, Bool, true, false, List, [], ◌∷◌, ◌++◌, length, get_or, map, Some, refl, sym, ap, ◌∙◌, subst, arith, eq-eqb}
-use Rattle.std.specs.Prelude.{Option, None, Result, Ok, Err, OnOk, OnErr, is_ok, is_err, Contains, slice_get, slice_set}
+use Rattle.std.specs.Prelude.{Option, None, Result, Ok, Err, OnOk, OnErr, is_ok, is_err, Contains, IsTrue, ◌↔◌, slice_get, slice_set}
 use Rattle.std.specs.Option.{option_map, option_map_or}
 use Rattle.std.proofs.Math.Dec.{eqb}
-use Rattle.std.proofs.lemmas.Option.{slice_get-map}
+use Rattle.std.proofs.lemmas.Option.{slice_get-map, slice_get_within}
 use Rattle.std.proofs.lemmas.List.{length-map}
 use Rattle.std.proofs.lemmas.Bool.{eqb-true, false≢true}
 use Rattle.gl_calls.specs.declared.reply.Entry.{Entry}
@@ -26,14 +26,14 @@ use Rattle.front_moves.specs.Core.{face}
 use Rattle.front_moves.specs.Reasons.{IsEnding}
 use Rattle.front_core.specs.Economy.{MayHandOver, due_of, due_over, may_wait, waits_of}
 use Rattle.front_core.specs.Front.{FrontModel, HasAnswered, HasStopped, IsClosed}
-use Rattle.play_model.specs.Plays.{Play, Plays, HasPlayed, HasEnded, IsReady, members, entry_on}
+use Rattle.play_model.specs.Plays.{Play, Plays, HasPlayed, HasEnded, MayPlay, IsReady, members, entry_on}
 use Rattle.world_core.specs.World.{history_at, play_at, group_numbers, due_in}
 use Rattle.world_core.specs.Steps.{HasCalled}
-use Rattle.world_core.specs.Inside.{AreNoted, AreFronts, Keeps, MayAsk, Runs, Replaces, HasAsked, HasBroken, HasClosedOne, world_of, played_of, histories_of}
+use Rattle.world_core.specs.Inside.{AreNoted, AreFronts, Keeps, MayAsk, Runs, Replaces, HasAsked, HasBroken, HasClosedOne, world_of, played_of, histories_of, follows}
 use Rattle.world_core.proofs.Laws.{Apart, GoOnStanding}
-use Rattle.world_core.proofs.Lists.{read_at, get_set, history_is, history_other, same_histories, number_at}
+use Rattle.world_core.proofs.Lists.{read_at, same_at, get_set, history_is, history_other, same_histories, number_at}
 use Rattle.world_core.proofs.Dues.{DuesGrow, due_grown, front_due}
-use Rattle.world_core.proofs.Noted.{noted_more}
+use Rattle.world_core.proofs.Noted.{noted_more, ready_from, not_ready_from}
 use Rattle.world_core.proofs.Fronts.{fronts_replaced, goes_replaced, stands_own}
 
 -- the laws that a call needs
@@ -287,3 +287,36 @@ keeps_ended threads done answered fronts new h k running same are keeps =
       fronts_are = are;
       runs = λ on. absurd (false≢true on);
     }
+
+-- Whether a thread may go on
+
+module _ (threads : List Plan) (done : List ℕ) (answered : List Bool) (fronts : List FrontModel) (h : List BackEvent) (running : Bool) (thread place : ℕ)
+    (keeps : Keeps threads done answered fronts h running) (at : slice_get done thread ≡ Some place) where
+  one_line : (line : Line) (is : IsLineOf threads thread place line) (may : MayPlay threads (played_of done fronts) thread) →
+      IsReady (history_at (histories_of fronts) is.plan.group) line
+  one_line line is may =
+      let places : may.next.place ≡ place = same_at done thread may.next.place place may.next.at at in
+      let plans : may.next.is.plan ≡ is.plan = same_at threads thread may.next.is.plan is.plan may.next.is.is_thread is.is_thread in
+      let lines : may.line ≡ line
+      = same_at is.plan.lines place may.line line
+      (subst (λ (n : ℕ). slice_get is.plan.lines n ≡ Some may.line) places (subst (λ (p : Plan). slice_get p.lines may.next.place ≡ Some may.line) plans may.next.is.is_line)) is.is_line in
+      subst (λ (p : Plan). IsReady (history_at (histories_of fronts) p.group) line) plans
+      (subst (IsReady (history_at (histories_of fronts) may.next.is.plan.group)) lines may.ready)
+
+  pub may_play : (line : Line) (is : IsLineOf threads thread place line) (b : Bool) → b ≡ follows answered line.after → IsTrue b ↔ MayPlay threads (played_of done fronts) thread
+  may_play line is true e =
+      (λ on. record { line = line; next = record { place = place; at = at; is = is };
+        ready = ready_from threads keeps.served.trace (played_of done fronts) answered keeps.noted thread place line is (sym e) },
+      λ may. refl)
+  may_play line is false e =
+      (λ on. absurd (false≢true on),
+      λ may. absurd (not_ready_from threads keeps.served.trace (played_of done fronts) answered keeps.noted thread place line is (sym e) (one_line line is may)))
+
+  pub may_not_play : (of : Plan) → slice_get threads thread ≡ Some of → length of.lines ≤ place → IsTrue false ↔ MayPlay threads (played_of done fronts) thread
+  may_not_play of is past =
+      (λ on. absurd (false≢true on),
+      λ may.
+        let places : may.next.place ≡ place = same_at done thread may.next.place place may.next.at at in
+        let plans : may.next.is.plan ≡ of = same_at threads thread may.next.is.plan of may.next.is.is_thread is in
+        let low = slice_get_within of.lines may.next.place may.line (subst (λ (p : Plan). slice_get p.lines may.next.place ≡ Some may.line) plans may.next.is.is_line) in
+        absurd (omega (arith, places, low, past)))

@@ -63,7 +63,7 @@ nothing_of h k g same left =
 
 -- a group that made nothing left nothing
 nothing_opening : (g : ℕ) → LeavesNothing (opening g)
-nothing_opening g = record { none_lost = λ id some. absurd some; given = λ id index uses is. absurd (cc) }
+nothing_opening g = record { none_lost = λ id some. absurd (false≢true some); given = λ id index uses is. absurd (cc) }
 
 nothing_unused : (k : List BackEvent) (g : ℕ) → own_part k g ≡ opening g → LeavesNothing (link_of k g)
 nothing_unused k g same =

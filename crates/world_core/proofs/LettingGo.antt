@@ -10,7 +10,11 @@ use Rattle.gl_calls.specs.declared.reply.Entry.{Entry}
 use Rattle.reply_text.specs.declared.history.GroupHistory.{GroupHistory}
 use Rattle.trace_text.specs.Reading.{Plan}
 use Rattle.back_core.specs.declared.back_event.BackEvent.{BackEvent}
+use Rattle.vk_device.specs.Journal.{kind_of}
+use Rattle.back_core.specs.Own.{Own}
 use Rattle.back_core.specs.Link.{Link}
+use Rattle.back_core.specs.Frame.{AtBack, NoBatch, GoesOn, uploaded, host_bytes}
+use Rattle.back_core.specs.Run.{IsRun, journal_of}
 use Rattle.back_core.specs.Answers.{Learns}
 use Rattle.back_core.specs.History.{link_of}
 use Rattle.front_model.specs.Stands.{Owns}
@@ -71,14 +75,16 @@ numbers_more count low =
     take_more group_numbers count count (slice_get_within group_numbers count count (number_at count low))
     ∙ ap (λ (n : ℕ). take count group_numbers ++ n ∷ []) (get_or_from_slice_get group_numbers count count count (number_at count low))
 
+-- the front whose turn it is holds what it has
+pub first_owns : (threads : List Plan) (all left : List FrontModel) (h i : List BackEvent) (ended : List GroupHistory) (count : ℕ) (front : FrontModel) →
+    Letting threads all left h i ended count → slice_get left 0 ≡ Some front → Owns (face front.core).objects (link_of i count)
+first_owns threads all left h i ended count front was first =
+    was.owns count front (sym (get_drop all count) ∙ ap (λ (l : List FrontModel). slice_get l 0) (sym was.rest) ∙ first) (omega arith)
+
 module _ (threads : List Plan) (all left rest : List FrontModel) (h i k : List BackEvent) (ended now : List GroupHistory) (count : ℕ) (front : FrontModel) (history : GroupHistory)
     (was : Letting threads all left h i ended count) (low : count < 8) where
   at_count : slice_get left 0 ≡ Some front → slice_get all count ≡ Some front
   at_count first = sym (get_drop all count) ∙ ap (λ (l : List FrontModel). slice_get l 0) (sym was.rest) ∙ first
-
-  -- the front whose turn it is holds what it has
-  pub first_owns : slice_get left 0 ≡ Some front → Owns (face front.core).objects (link_of i count)
-  first_owns first = was.owns count front (at_count first) (omega arith)
 
   groups_more : (b : Bool) → is_declared threads count ≡ b → history.group ≡ count → now ≡ cond b (ended ++ history ∷ []) ended →
       map (λ (x : GroupHistory). x.group) now ≡ filter (is_declared threads) (take (count + 1) group_numbers)
@@ -127,3 +133,46 @@ module _ (threads : List Plan) (all left rest : List FrontModel) (h i k : List B
 pub all_groups : (threads : List Plan) (all left : List FrontModel) (h k : List BackEvent) (ended : List GroupHistory) (count : ℕ) → Letting threads all left h k ended count → count ≡ 8 →
     map (λ history. history.group) ended ≡ declared threads
 all_groups threads all left h k ended count letting is = letting.groups ∙ ap (λ (n : ℕ). filter (is_declared threads) (take n group_numbers)) is
+
+-- A front let go of what it had
+
+module _ (law : (h : List BackEvent) (g : ℕ) → (link_of h g).group ≡ g) where
+  pub let_go_group : (h k : List BackEvent) (g n : ℕ) → AtBack (link_of h g) (link_of k n) (Some h) (Some k) 0 false false NoBatch → GoesOn g (Some h) (Some k)
+  let_go_group h k g n at_back = subst (λ (m : ℕ). GoesOn m (Some h) (Some k)) (law h g) at_back.goes_on
+
+  pub let_go_lets : ((h k : List BackEvent) (a : ℕ) (gained : List Own) → GoesOn a (Some h) (Some k) → (link_of k a).mine ≡ (link_of h a).mine ++ gained →
+      host_bytes (journal_of k) ≡ host_bytes (journal_of h) + uploaded gained) →
+      ((h k : List BackEvent) (a : ℕ) → IsRun k → GoesOn a (Some h) (Some k) → (link_of k a).kinds ≡ (link_of h a).kinds → (id : ℕ) → kind_of (journal_of k) id ≡ kind_of (journal_of h) id) →
+      (h k : List BackEvent) (g n : ℕ) (held : ℕ → Bool) → IsRun k → link_of k n ≡ record (link_of h g) { held = held } →
+      AtBack (link_of h g) (link_of k n) (Some h) (Some k) 0 false false NoBatch → LetsGo h k
+  let_go_lets wrote objects h k g n held run rest at_back =
+      let goes = let_go_group h k g n at_back in
+      let same : n ≡ g = sym (law k n) ∙ at_back.group ∙ law h g in
+      let kinds : (link_of k g).kinds ≡ (link_of h g).kinds = ap (λ (m : ℕ). (link_of k m).kinds) (sym same) ∙ ap (λ (l : Link). l.kinds) rest in
+      let mine : (link_of k g).mine ≡ (link_of h g).mine ++ at_back.gained = ap (λ (m : ℕ). (link_of k m).mine) (sym same) ∙ at_back.grows in
+      let bytes = wrote h k g at_back.gained goes mine in
+      let few = at_back.uploads in
+      record { objects = objects h k g run goes kinds; written = omega (arith, bytes, few); going = at_back.going refl }
+
+-- The last of some fronts is let go
+
+last_at : {X : Type 0} (xs : List X) (x : X) → slice_get (xs ++ x ∷ []) (length xs) ≡ Some x
+last_at [] x = refl
+last_at (y ∷ xs) x = last_at xs x
+
+front_at : {X : Type 0} (xs : List X) (x y : X) (i : ℕ) → slice_get xs i ≡ Some y → slice_get (xs ++ x ∷ []) i ≡ Some y
+front_at [] x y i at = absurd (cc)
+front_at (z ∷ xs) x y zero at = at
+front_at (z ∷ xs) x y (suc i) at = front_at xs x y i at
+
+pub last_owns : (all rest : List FrontModel) (front : FrontModel) (h : List BackEvent) (n : ℕ) → all ≡ rest ++ front ∷ [] → n ≡ length rest → OwnTheirs all h →
+    Owns (face front.core).objects (link_of h n)
+last_owns all rest front h n is count owns =
+    owns n front (ap (λ (l : List FrontModel). slice_get l n) is ∙ ap (slice_get (rest ++ front ∷ [])) count ∙ last_at rest front)
+
+pub rest_own : (all rest : List FrontModel) (front : FrontModel) (h k : List BackEvent) (n : ℕ) → all ≡ rest ++ front ∷ [] → n ≡ length rest → OwnTheirs all h →
+    ((other : ℕ) → other ≢ n → Learns (link_of h other) (link_of k other)) → OwnTheirs rest k
+rest_own all rest front h k n is count owns others group f at =
+    let low = slice_get_within rest group f at in
+    owns_still (face f.core).objects (link_of h group) (link_of k group)
+    (owns group f (ap (λ (l : List FrontModel). slice_get l group) is ∙ front_at rest front f group at)) (others group (λ same. absurd (omega (arith, same, count, low))))

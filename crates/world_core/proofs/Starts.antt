@@ -1,12 +1,12 @@
 -- What a world begins with.
-use Rattle.std.proofs.Common.{◌≡◌, ◌≢◌, ℕ, suc, zero, ◌+◌, ◌≤◌, ◌<◌, ◌==◌, Bool, true, false, List, [], ◌∷◌, ◌++◌, length, get_or, map, take, drop, replicate, Some, None, refl, sym, ap, ◌∙◌, subst, arith, eq-eqb, cond}
-use Rattle.std.specs.Prelude.{slice_get, Option, unwrap_or, IsSome}
+use Rattle.std.proofs.Common.{◌≡◌, ◌≢◌, ℕ, suc, zero, ◌+◌, ◌-◌, ◌≤◌, ◌<◌, Bool, true, false, List, [], ◌∷◌, ◌++◌, length, get_or, map, take, replicate, Some, None, refl, sym, ap, ◌∙◌, subst, arith, eq-eqb}
+use Rattle.std.specs.Prelude.{slice_get, Option, unwrap_or}
 use Rattle.std.specs.Option.{option_map}
 use Rattle.std.proofs.Math.Dec.{eqb}
 use Rattle.std.proofs.Math.Path.{fun_ext}
 use Rattle.std.proofs.lemmas.Bool.{eqb-true, false≢true}
-use Rattle.std.proofs.lemmas.List.{at_drop_more}
-use Rattle.std.proofs.lemmas.Option.{slice_get-map, slice_get-get_or, slice_get_within, slice_get_past}
+use Rattle.std.proofs.lemmas.List.{get_or-replicate, length-replicate}
+use Rattle.std.proofs.lemmas.Option.{slice_get-map, slice_get-get_or, slice_get_within}
 use Rattle.gl_calls.specs.declared.reply.Entry.{Entry}
 use Rattle.vk_device.specs.declared.logged.Logged.{Logged}
 use Rattle.trace_text.specs.declared.trace.Line.{Line}
@@ -22,15 +22,32 @@ use Rattle.back_core.specs.Steps.{CleansWhole}
 use Rattle.front_model.specs.Stands.{Owns}
 use Rattle.front_moves.specs.Core.{face}
 use Rattle.front_core.specs.Front.{FrontModel, FrontStands, IsNewFront}
-use Rattle.play_model.specs.Plays.{Play, HasPlayed, none_done, members, members_from, opening_play, is_answered}
+use Rattle.play_model.specs.Plays.{Play, HasPlayed, none_done, members, opening_play, is_answered}
 use Rattle.world_core.specs.World.{IsServed, history_at, play_at, group_numbers, due_in}
 use Rattle.world_core.specs.Inside.{AreNew, OwnTheirs, AreFronts, Goes, Keeps, histories_of, played_of}
+use Rattle.world_core.proofs.Lists.{read_at}
 use Rattle.world_core.proofs.Fronts.{stands_own}
 
 -- no line of any thread was answered
 pub none_done_is : (threads : List ThreadPlan) → replicate (length threads) 0 ≡ none_done (map plan threads)
 none_done_is [] = refl
 none_done_is (thread ∷ threads) = ap (λ (l : List ℕ). 0 ∷ l) (none_done_is threads)
+
+take_none : {X : Type 0} (n : ℕ) → ◌≡◌ {A = List X} (take n []) []
+take_none zero = refl
+take_none (suc n) = refl
+
+-- an empty list that was filled up
+pub filled : {X : Type 0} (items old : List X) (n m : ℕ) (x : X) → items ≡ take n old ++ replicate (n - m) x → old ≡ [] → m ≡ 0 → items ≡ replicate n x
+filled {X} items old n m x is empty none =
+    is ∙ ap (λ (l : List X). take n l ++ replicate (n - m) x) empty ∙ ap (λ (l : List X). l ++ replicate (n - m) x) (take_none n)
+    ∙ ap (λ (k : ℕ). replicate k x) (omega (arith, none))
+
+pub at_filled : (items : List Bool) (n i : ℕ) → items ≡ replicate n false → i < n → slice_get items i ≡ Some false
+at_filled items n i is low =
+    ap (λ (l : List Bool). slice_get l i) is
+    ∙ slice_get-get_or (replicate n false) i false (let count = length-replicate n false in omega (arith, count, low))
+    ∙ ap Some (get_or-replicate n i false false low)
 
 -- the line of a thread's plan is one of its lines
 pub line_in : (threads : List ThreadPlan) (thread place : ℕ) (line : Line) (of : ThreadPlan) → slice_get threads thread ≡ Some of → IsLineOf (map plan threads) thread place line →
@@ -50,13 +67,21 @@ thread_within (of ∷ threads) (suc thread) place line is =
     let low : thread < length threads = thread_within threads thread place line (record { plan = is.plan; is_thread = is.is_thread; is_line = is.is_line }) in
     omega (arith, low)
 
--- The members of a group
-
-pub members_more : (threads : List ThreadPlan) (i : ℕ) (d : ThreadPlan) (group : ℕ) → i < length threads → d ≡ get_or threads i d →
-    members_from i (map plan (drop i threads)) group ≡ cond (d.group == group) (i ∷ members_from (i + 1) (map plan (drop (i + 1) threads)) group) (members_from (i + 1) (map plan (drop (i + 1) threads)) group)
-members_more threads i d group low is =
-    at_drop_more (λ (l : List ThreadPlan). members_from i (map plan l) group) threads i d low
-    ∙ ap (λ (t : ThreadPlan). members_from i (map plan (t ∷ drop (i + 1) threads)) group) (sym is)
+-- the numbers of one more thread's lines are past
+pub past_more : (threads : List ThreadPlan) (count past now : ℕ) (of : ThreadPlan) (lines : List Line) → count < length threads → of ≡ get_or threads count of → lines ≡ of.lines.items →
+    ((thread place : ℕ) (line : Line) → thread < count → IsLineOf (map plan threads) thread place line → line.number < past) →
+    ((place : ℕ) (line : Line) → slice_get lines place ≡ Some line → line.number < now) → past ≤ now →
+    (thread place : ℕ) (line : Line) → thread < count + 1 → IsLineOf (map plan threads) thread place line → line.number < now
+past_more threads count past now of lines low of_is lines_are before here later thread place line in_range is = by (eqb thread count) refl
+  where
+    by : (b : Bool) → eqb thread count ≡ b → line.number < now
+    by true same =
+        here place line (subst (λ (l : List Line). slice_get l place ≡ Some line) (sym lines_are)
+        (line_in threads thread place line of (read_at threads count thread of (sym (eqb-true thread count same)) (omega (arith, low, eqb-true thread count same)) of_is) is))
+    by false same =
+        let ne : thread ≢ count = λ is_same. false≢true (sym same ∙ eq-eqb thread count is_same) in
+        let was = before thread place line (omega (arith, in_range, ne)) is in
+        omega (arith, was, later)
 
 -- New fronts
 
@@ -127,7 +152,7 @@ none_written : (n : ℕ) → host_bytes [] ≤ n
 unfolding host_bytes
 none_written n = omega arith
 
-play_with : List ℕ → (ℕ → List Entry) → Play
+abbrev play_with : List ℕ → (ℕ → List Entry) → Play
 play_with d hs = record { done = d; histories = hs }
 
 module _ (links : NewLinks) (whole : CleansWhole []) (going : IsGoing (Some [])) (opening : journal_of [] ≡ [])

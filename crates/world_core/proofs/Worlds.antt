@@ -1,14 +1,16 @@
 -- Steps of a world from those of its parts.
-use Rattle.std.proofs.Common.{◌≡◌, ℕ, ◌≤◌, ◌<◌, Bool, true, false, List, length, Some, None, refl, sym, ap, ◌∙◌, subst}
+use Rattle.std.proofs.Common.{◌≡◌, ℕ, ◌≤◌, ◌<◌, Bool, true, false, List, length, map, Some, None, refl, sym, ap, ◌∙◌, subst}
 use Rattle.std.specs.Prelude.{Result, Ok, Err, IfOk, IfErr, OnOk, OnErr, is_ok}
+use Rattle.std.specs.List.{All}
 use Rattle.vk_types.specs.declared.stops.Stop.{Stop}
+use Rattle.reply_text.specs.declared.history.GroupHistory.{GroupHistory}
 use Rattle.vk_device.specs.declared.logged.Logged.{Logged}
 use Rattle.vk_device.specs.Faults.{HasCause}
 use Rattle.vk_device.specs.Journal.{kind_of}
 use Rattle.gl_calls.specs.declared.reply.Entry.{Entry}
 use Rattle.trace_text.specs.Reading.{Plan}
 use Rattle.back_core.specs.Frame.{IsGoing, host_bytes}
-use Rattle.back_core.specs.Run.{WereRead, journal_of}
+use Rattle.back_core.specs.Run.{IsRun, WereRead, journal_of}
 use Rattle.back_core.specs.Back.{BackModel, stopped_by}
 use Rattle.back_core.specs.Steps.{CleansSome}
 use Rattle.front_core.specs.Front.{FrontModel}
@@ -16,10 +18,10 @@ use Rattle.world_core.specs.declared.event.Event.{Event}
 use Rattle.world_core.specs.declared.event.Event.TheVariants as event
 use Rattle.world_core.specs.declared.event.Stepped.{Stepped}
 use Rattle.world_core.specs.declared.event.Stepped.TheVariants.{Done, Nothing, NotReady, Ended}
-use Rattle.world_core.specs.World.{WorldModel, play_at, due_in}
+use Rattle.world_core.specs.World.{WorldModel, IsLawful, AreHistories, declared, history_at, play_at, play_of, due_in}
 use Rattle.world_core.specs.Steps.{IsAtBack, IsStep, IsHalt, HasHalted, HasFailed}
-use Rattle.world_core.specs.Ends.{HasClosed}
-use Rattle.world_core.specs.Inside.{world_of, histories_of, HasSubmitted, HasTurned, HasRetired, HasCleaned}
+use Rattle.world_core.specs.Ends.{HasClosed, HasFinished}
+use Rattle.world_core.specs.Inside.{Keeps, LetsGo, world_of, histories_of, HasSubmitted, HasTurned, HasRetired, HasCleaned}
 
 module _ {D : Type 0} (journal : D → List Logged) (threads : List Plan) (done : List ℕ) (fronts : List FrontModel) (back now : BackModel D) (running : Bool)
     (old : WorldModel D) (is : world_of threads done fronts back running ≡ old) where
@@ -155,3 +157,34 @@ module _ {D : Type 0} (journal : D → List Logged) (threads : List Plan) (done 
     play = ap (play_at done) same;
     running = refl;
   })
+
+  -- what holds of each world
+
+  pub lawful : (answered : List Bool) → Keeps threads done answered fronts back.history running → IsRun back.history → journal back.device ≡ journal_of back.history → IsLawful journal old
+  lawful answered keeps run logged = subst (IsLawful journal) is (record {
+    served = keeps.served;
+    played = keeps.played;
+    run = run;
+    journal_is = logged;
+    going = λ on. (keeps.runs on).goes.going;
+    uploads = λ on. subst (λ (l : List Logged). host_bytes l ≤ due_in threads (play_at done (histories_of fronts))) (sym logged) (keeps.runs on).uploads;
+  })
+
+  -- what is left of a world
+
+  pub finished_step : (last : BackModel D) (j : List Logged) → last ≡ now → IsRun last.history → j ≡ journal_of last.history → LetsGo back.history now.history → HasFinished old j
+  finished_step last j same run logged lets = subst (λ (w : WorldModel D). HasFinished w j) is (record {
+    history = last.history;
+    run = run;
+    journal_is = logged;
+    objects = λ id. ap (λ (l : List Logged). kind_of l id) (logged ∙ ap (λ (b : BackModel D). journal_of b.history) same) ∙ lets.objects id;
+    written = ap host_bytes (logged ∙ ap (λ (b : BackModel D). journal_of b.history) same) ∙ lets.written;
+    going = λ on. subst (λ (b : BackModel D). IsGoing (Some b.history)) (sym same) (lets.going on);
+  })
+
+  pub histories_step : (groups : List GroupHistory) → map (λ history. history.group) groups ≡ declared threads →
+      All (λ history. history.entries.items ≡ history_at (histories_of fronts) history.group) groups → AreHistories old.threads (play_of old) groups
+  histories_step groups of_groups entries = subst (λ (w : WorldModel D). AreHistories w.threads (play_of w) groups) is (record { of_groups = of_groups; entries = entries })
+
+  pub faults_step : (faults : D → ℕ) (n : ℕ) → faults back.device ≤ n → faults old.back.device ≤ n
+  faults_step faults n risen = subst (λ (w : WorldModel D). faults w.back.device ≤ n) is risen

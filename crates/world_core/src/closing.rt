@@ -11,8 +11,7 @@ ghost use Rattle.world_core.specs.Inside.{AreFronts, Goes, AreClosed, HasClosedO
 
 use crate::world::GROUPS;
 use back_core::{
-    Direct, backs_keep_going, cleanups_stay_whole, groups_are_apart, runs_of_one_group,
-    what_a_group_sees,
+    Direct, backs_keep_going, cleanups_stay_whole, groups_are_apart, what_a_group_sees,
 };
 use front_core::{Front, fronts_go_on_standing};
 use vk_device::Device;
@@ -35,7 +34,6 @@ pub(crate) fn end_all<D: Device>(
     groups_are_apart();
     cleanups_stay_whole();
     backs_keep_going();
-    runs_of_one_group();
     close_fronts(fronts, link)?;
     link.back.settle_all()?;
     link.back.clean_all()?;
@@ -54,6 +52,7 @@ fn close_fronts<D: Device>(fronts: &mut Vec<Front>, link: &mut Direct<D>) -> Res
 {
     groups_are_apart();
     cleanups_stay_whole();
+    what_a_group_sees();
     fronts_go_on_standing();
     for group in 0..GROUPS {
         close_one(fronts, link, group)?;

@@ -102,7 +102,12 @@ fn keep(ended: &mut Vec<GroupHistory>, declared: bool, group: u8, entries: Vec<E
 fn is_declared(threads: &[ThreadPlan], group: u8) -> bool
     ensures { result ≡ is_declared (map plan threads.now) group }
 {
-    threads.iter().any(|thread| thread.group == group)
+    for thread in threads {
+        if thread.group == group {
+            return true;
+        }
+    }
+    false
 }
 
 /// Ends the front of a group, and gives its history.

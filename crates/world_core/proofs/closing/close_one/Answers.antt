@@ -5,7 +5,9 @@ use Rattle.world_core.proofs.closing.close_one.Goals as goal
 pub close-requires : goal.close-requires
 close-requires g c =
     let front = c.index_mut-front.result.now in
-    c.requires.stands front (read_at c.args.fronts.now.items c.from.result c.args.group front c.from.ensures c.requires.low c.index_mut-front.ensures.value)
+    record {
+      stands = c.requires.stands front (read_at c.args.fronts.now.items c.from.result c.args.group front c.from.ensures c.requires.low c.index_mut-front.ensures.value);
+    }
 
 pub returns-clause-ok : goal.returns-clause-ok
 returns-clause-ok g c =

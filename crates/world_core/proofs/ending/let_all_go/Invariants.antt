@@ -1,4 +1,5 @@
-use Rattle.std.proofs.Common.{◌≤◌}
+use Rattle.std.proofs.Common.{◌≤◌, map}
+use Rattle.std.specs.Vec.{vec_capacity}
 use Rattle.trace_text.specs.Reading.{plan}
 use Rattle.world_core.proofs.LettingGo.{Letting}
 use Rattle.world_core.proofs.ending.let_all_go.Given as goal

@@ -2,12 +2,12 @@ use Rattle.std.proofs.Common.{◌≤◌, length}
 use Rattle.world_core.specs.Inside.{OwnTheirs}
 use Rattle.world_core.proofs.opening.abandon_all.Given as goal
 
-abbrev pub invariant-loop-fronts : goal.invariant-loop-fronts
-invariant-loop-fronts g l = record {
+abbrev pub invariant-loop-front : goal.invariant-loop-front
+invariant-loop-front g l = record {
   low : length l.fronts.items ≤ 8;
   owns : OwnTheirs l.fronts.items l.link.back.history;
   later : g.D.Device.faults l.fn.link.back.device ≤ g.D.Device.faults l.link.back.device;
 }
 
-abbrev pub decreases-loop-fronts : goal.decreases-loop-fronts
-decreases-loop-fronts g l = length l.fronts.items
+abbrev pub decreases-loop-front : goal.decreases-loop-front
+decreases-loop-front g l = length l.fronts.items
