@@ -1,5 +1,5 @@
 -- How a run ends, by what it has to say and what the sink took of it.
-use Rattle.std.proofs.Common.{◌≡◌, ◌≢◌, ◌⊎◌, ℕ, ◌<◌, ◌≤◌, true, false, List, ◌++◌, length, take, Result, Option, Some, None, refl, sym, ap, ◌∙◌, subst, arith, inl, inr, length-append}
+use Rattle.std.proofs.Common.{◌≡◌, ◌≢◌, ◌⊎◌, ℕ, ◌<◌, ◌≤◌, Bool, true, false, List, ◌++◌, length, take, Result, Option, Some, None, refl, sym, ap, ◌∙◌, subst, arith, inl, inr, length-append}
 use Rattle.std.proofs.lemmas.List.{append-nil}
 use Rattle.std.specs.Io.KnownBytes.{Appends, Consumes, IsAtEnd}
 use Rattle.trace_io.specs.declared.status.Status.{Status}
@@ -10,16 +10,19 @@ use Rattle.std.specs.declared.result.Result.TheVariants as results
 use Rattle.trace_text.specs.Reading.{Plan, Place, trace_of}
 use Rattle.trace_text.specs.Traces.{Spells}
 use Rattle.trace_text.proofs.TextLaws.{text_again}
-use Rattle.reply_text.specs.declared.history.GroupHistory.{GroupHistory}
 use Rattle.trace_run.specs.declared.saying.Said.{Said}
 use Rattle.trace_run.specs.declared.saying.Said.TheVariants as said
 use Rattle.trace_run.specs.Runs.{first_unbuilt}
-use Rattle.trace_run.specs.Once.{SpellsOnce, Gives, Ran, Answered, WasLost, IsRefusedAt, IsRefusal, Refused, IsWritten, WasCutOff, IsUnread, IsRunOf, IsSaid, Says, Puts, text_of, status_of, has_text, usage_line, MayAnswer, MayRefuse, MayRefuseLong, kind_of_long}
+use Rattle.trace_run.specs.Once.{Names, SpellsOnce, Gives, Answered, WasLost, IsRefusedAt, IsRefusal, Refused, IsWritten, WasCutOff, IsUnread, IsRunOf, IsSaid, Says, Puts, text_of, status_of, has_text, usage_line, MayAnswer, MayRefuse, MayRefuseLong, kind_of_long}
 
 -- a text that was put is said
-pub puts_said : {text : List ℕ} {good : Status} {taken taken_after : Option (List ℕ)} {faults faults_after : ℕ} {status : Status} (it : Said) → Puts text good taken taken_after faults faults_after status → text ≡ text_of it → good ≡ status_of it → has_text it ≡ true → Says it taken taken_after faults faults_after status
-puts_said {taken = taken} {taken_after = taken_after} it (Puts.all s a) same good has = Says.whole (s ∙ good) has (subst (Appends taken taken_after) same a)
-puts_said {taken = taken} {taken_after = taken_after} it (Puts.some s rose n a) same good has = Says.front s has rose n (subst (λ (l : List ℕ). Appends taken taken_after (take n l)) same a)
+pub puts_said : {text : List ℕ} {good : Status} {taken taken_after : Option (List ℕ)} {faults faults_after : ℕ} {status : Status}
+    (it : Said) → Puts text good taken taken_after faults faults_after status → text ≡ text_of it → good ≡ status_of it →
+    has_text it ≡ true → Says it taken taken_after faults faults_after status
+puts_said {taken = taken} {taken_after = taken_after} it (Puts.all s a) same good has =
+    Says.whole (s ∙ good) has (subst (Appends taken taken_after) same a)
+puts_said {taken = taken} {taken_after = taken_after} it (Puts.some s rose n a) same good has =
+    Says.front s has rose n (subst (λ (l : List ℕ). Appends taken taken_after (take n l)) same a)
 
 no_yes : false ≡ true → ⊥
 no_yes e = cc
@@ -29,18 +32,20 @@ no_silence said.Usage has (inl e) = cc
 no_silence said.Usage has (inr e) = cc
 no_silence (said.Refused line kind) has (inl e) = cc
 no_silence (said.Refused line kind) has (inr e) = cc
-no_silence (said.Replies groups) has (inl e) = cc
-no_silence (said.Replies groups) has (inr e) = cc
+no_silence (said.Replies groups tail) has (inl e) = cc
+no_silence (said.Replies groups tail) has (inr e) = cc
 no_silence (said.Lost groups) has (inl e) = cc
 no_silence (said.Lost groups) has (inr e) = cc
 no_silence said.ReadFault has e = no_yes has
 no_silence said.Memory has e = no_yes has
 
-either : {status : Status} (it : Said) → status ≡ status_of it → (status ≡ ReadFault) ⊎ (status ≡ Memory) → (status_of it ≡ ReadFault) ⊎ (status_of it ≡ Memory)
+either : {status : Status} (it : Said) → status ≡ status_of it → (status ≡ ReadFault) ⊎ (status ≡ Memory) →
+    (status_of it ≡ ReadFault) ⊎ (status_of it ≡ Memory)
 either it e (inl is) = inl (sym e ∙ is)
 either it e (inr is) = inr (sym e ∙ is)
 
-pub silent : {taken taken_after : Option (List ℕ)} {faults faults_after : ℕ} {status : Status} (it : Said) → Says it taken taken_after faults faults_after status → (status ≡ ReadFault) ⊎ (status ≡ Memory) → taken_after ≡ taken
+pub silent : {taken taken_after : Option (List ℕ)} {faults faults_after : ℕ} {status : Status} (it : Said) →
+    Says it taken taken_after faults faults_after status → (status ≡ ReadFault) ⊎ (status ≡ Memory) → taken_after ≡ taken
 silent it (Says.whole e h a) is = absurd (no_silence it h (either it e is))
 silent it (Says.front e h rose n a) (inl is) = let wrong : WriteFault ≡ ReadFault = sym e ∙ is in absurd (cc)
 silent it (Says.front e h rose n a) (inr is) = let wrong : WriteFault ≡ Memory = sym e ∙ is in absurd (cc)
@@ -48,21 +53,26 @@ silent it (Says.no_text e h same) is = same
 silent it (Says.no_memory e not same) is = same
 
 -- the usage line needs no memory
-pub usage_alone : {taken taken_after : Option (List ℕ)} {faults faults_after : ℕ} {status : Status} (it : Said) → it ≡ said.Usage → Says it taken taken_after faults faults_after status → (status ≡ Usage) ⊎ (status ≡ WriteFault)
+pub usage_alone : {taken taken_after : Option (List ℕ)} {faults faults_after : ℕ} {status : Status} (it : Said) → it ≡ said.Usage →
+    Says it taken taken_after faults faults_after status → (status ≡ Usage) ⊎ (status ≡ WriteFault)
 usage_alone it is (Says.whole e h a) = inl (e ∙ ap status_of is)
 usage_alone it is (Says.front e h rose n a) = inr e
 usage_alone it is (Says.no_text e h same) = inl (e ∙ ap status_of is)
 usage_alone it is (Says.no_memory e not same) = absurd (not is)
 
 -- what came is all that was there
-whole_text : (text came : List ℕ) (left left_after : Option (List ℕ)) → left ≡ Some text → Consumes left left_after came → IsAtEnd left_after → came ≡ text
+whole_text : (text came : List ℕ) (left left_after : Option (List ℕ)) → left ≡ Some text → Consumes left left_after came →
+    IsAtEnd left_after → came ≡ text
 whole_text text came left None is consumes ended = absurd (rw is at consumes)
-whole_text text came left (Some rest) is consumes ended = let e : text ≡ came ++ rest = rw is at consumes in sym (e ∙ ap (λ (l : List ℕ). came ++ l) ended ∙ append-nil came)
+whole_text text came left (Some rest) is consumes ended =
+    let e : text ≡ came ++ rest = rw is at consumes in sym (e ∙ ap (λ (l : List ℕ). came ++ l) ended ∙ append-nil came)
 
 -- what came is no longer than what was there
-came_short : (text came : List ℕ) (left left_after : Option (List ℕ)) → left ≡ Some text → Consumes left left_after came → length came ≤ length text
+came_short : (text came : List ℕ) (left left_after : Option (List ℕ)) → left ≡ Some text → Consumes left left_after came →
+    length came ≤ length text
 came_short text came left None is consumes = absurd (rw is at consumes)
-came_short text came left (Some rest) is consumes = let e : text ≡ came ++ rest = rw is at consumes in omega (arith, ap length e, length-append came rest)
+came_short text came left (Some rest) is consumes =
+    let e : text ≡ came ++ rest = rw is at consumes in omega (arith, ap length e, length-append came rest)
 
 -- a text spells one trace at most, and where it spells one it has no fault
 one_trace : (text : List ℕ) (threads others : List Plan) → Spells text threads → Spells text others → threads ≡ others
@@ -90,7 +100,8 @@ refused_once text l k line kind (IsRefusedAt.unbuilt threads a t m) (IsRefusedAt
     (cc, m ∙ sym n)
 
 -- a text that is refused spells no trace that is served
-exclusive : (text : List ℕ) (line kind : ℕ) (threads : List Plan) → IsRefusedAt text line kind → Spells text threads → first_unbuilt threads ≡ None → ⊥
+exclusive : (text : List ℕ) (line kind : ℕ) (threads : List Plan) → IsRefusedAt text line kind → Spells text threads →
+    first_unbuilt threads ≡ None → ⊥
 exclusive text line kind threads (IsRefusedAt.fault a) spelled built =
     let e = sym a ∙ text_again text threads spelled in absurd (cc)
 exclusive text line kind threads (IsRefusedAt.unbuilt others a u n) spelled built =
@@ -98,7 +109,8 @@ exclusive text line kind threads (IsRefusedAt.unbuilt others a u n) spelled buil
     let e : None ≡ Some line = sym built ∙ ap first_unbuilt same ∙ u in
     absurd (cc)
 
-module _ (words : List (List ℕ)) (left left_after : Option (List ℕ)) (reads reads_after losses losses_after : ℕ) (journal : List Logged) (taken taken_after : Option (List ℕ)) (faults faults_after : ℕ) (status : Status) where
+module _ (words : List (List ℕ)) (left left_after : Option (List ℕ)) (reads reads_after losses losses_after : ℕ) (journal : List Logged)
+    (taken taken_after : Option (List ℕ)) (faults faults_after : ℕ) (status : Status) where
   abbrev So : Said → Type 0
   So it = IsSaid words left left_after reads reads_after losses losses_after journal it
 
@@ -115,20 +127,20 @@ module _ (words : List (List ℕ)) (left left_after : Option (List ℕ)) (reads 
   spoke s it is fault memory (Says.no_text e h same) = (sym e ∙ is, λ yes. absurd (no_yes (sym h ∙ yes)))
   spoke s it is fault memory (Says.no_memory e not same) = absurd (memory (sym is ∙ e))
 
-  ok_from : (it : Said) → status_of it ≡ Ok → So it → Taken it → Answered left left_after taken taken_after journal
-  ok_from (said.Replies groups) e so a = record { groups = groups.items; ran = so; written = a refl }
+  ok_from : (it : Said) → status_of it ≡ Ok → So it → Taken it → Answered words left left_after taken taken_after journal
+  ok_from (said.Replies groups tail) e so a = record { groups = groups.items; tail = tail; ran = so; written = a refl }
   ok_from (said.Lost groups) e so a = absurd (cc)
   ok_from said.Usage e so a = absurd (cc)
   ok_from (said.Refused line kind) e so a = absurd (cc)
   ok_from said.ReadFault e so a = absurd (cc)
   ok_from said.Memory e so a = absurd (cc)
 
-  pub ok : (it : Said) → So it → Spoken it → status ≡ Ok → Answered left left_after taken taken_after journal
+  pub ok : (it : Said) → So it → Spoken it → status ≡ Ok → Answered words left left_after taken taken_after journal
   ok it so says is = let sp = spoke Ok it is (λ e. cc) (λ e. cc) says in ok_from it sp.0 so sp.1
 
   usage_from : (it : Said) → status_of it ≡ Usage → So it → Taken it → (¬ SpellsOnce words) × Appends taken taken_after usage_line
   usage_from said.Usage e so a = (so, a refl)
-  usage_from (said.Replies groups) e so a = absurd (cc)
+  usage_from (said.Replies groups tail) e so a = absurd (cc)
   usage_from (said.Lost groups) e so a = absurd (cc)
   usage_from (said.Refused line kind) e so a = absurd (cc)
   usage_from said.ReadFault e so a = absurd (cc)
@@ -141,8 +153,9 @@ module _ (words : List (List ℕ)) (left left_after : Option (List ℕ)) (reads 
   trace_from l k (said.Refused line kind) e so a =
       let same_line : line ≡ l = cc in
       let same_kind : kind ≡ k = cc in
-      subst (λ (n : ℕ). Refused left left_after taken taken_after n k) same_line (subst (λ (n : ℕ). Refused left left_after taken taken_after line n) same_kind (record { refusal = so; written = a refl }))
-  trace_from l k (said.Replies groups) e so a = absurd (cc)
+      subst (λ (n : ℕ). Refused left left_after taken taken_after n k) same_line
+      (subst (λ (n : ℕ). Refused left left_after taken taken_after line n) same_kind (record { refusal = so; written = a refl }))
+  trace_from l k (said.Replies groups tail) e so a = absurd (cc)
   trace_from l k (said.Lost groups) e so a = absurd (cc)
   trace_from l k said.Usage e so a = absurd (cc)
   trace_from l k said.ReadFault e so a = absurd (cc)
@@ -153,7 +166,7 @@ module _ (words : List (List ℕ)) (left left_after : Option (List ℕ)) (reads 
 
   read_from : (it : Said) → status_of it ≡ ReadFault → So it → Rose reads reads_after
   read_from said.ReadFault e so = so
-  read_from (said.Replies groups) e so = absurd (cc)
+  read_from (said.Replies groups tail) e so = absurd (cc)
   read_from (said.Lost groups) e so = absurd (cc)
   read_from said.Usage e so = absurd (cc)
   read_from (said.Refused line kind) e so = absurd (cc)
@@ -162,21 +175,22 @@ module _ (words : List (List ℕ)) (left left_after : Option (List ℕ)) (reads 
   pub read_fault : (it : Said) → So it → Spoken it → status ≡ ReadFault → Rose reads reads_after
   read_fault it so says is = read_from it (spoke ReadFault it is (λ e. cc) (λ e. cc) says).0 so
 
-  lost_from : (it : Said) → status_of it ≡ DeviceLost → So it → Taken it → WasLost left left_after taken taken_after losses losses_after
+  lost_from : (it : Said) → status_of it ≡ DeviceLost → So it → Taken it →
+      WasLost words left left_after taken taken_after losses losses_after
   lost_from (said.Lost groups) e so a = record { groups = groups.items; ran = so; written = a refl }
-  lost_from (said.Replies groups) e so a = absurd (cc)
+  lost_from (said.Replies groups tail) e so a = absurd (cc)
   lost_from said.Usage e so a = absurd (cc)
   lost_from (said.Refused line kind) e so a = absurd (cc)
   lost_from said.ReadFault e so a = absurd (cc)
   lost_from said.Memory e so a = absurd (cc)
 
-  pub lost : (it : Said) → So it → Spoken it → status ≡ DeviceLost → WasLost left left_after taken taken_after losses losses_after
+  pub lost : (it : Said) → So it → Spoken it → status ≡ DeviceLost → WasLost words left left_after taken taken_after losses losses_after
   lost it so says is = let sp = spoke DeviceLost it is (λ e. cc) (λ e. cc) says in lost_from it sp.0 so sp.1
 
   no_write_fault : (it : Said) → status_of it ≡ WriteFault → ⊥
   no_write_fault said.Usage e = cc
   no_write_fault (said.Refused line kind) e = cc
-  no_write_fault (said.Replies groups) e = cc
+  no_write_fault (said.Replies groups tail) e = cc
   no_write_fault (said.Lost groups) e = cc
   no_write_fault said.ReadFault e = cc
   no_write_fault said.Memory e = cc
@@ -184,12 +198,13 @@ module _ (words : List (List ℕ)) (left left_after : Option (List ℕ)) (reads 
   written_of : (it : Said) → So it → has_text it ≡ true → IsWritten words left left_after losses losses_after journal (text_of it)
   written_of said.Usage so has = IsWritten.usage so refl
   written_of (said.Refused line kind) so has = IsWritten.refusal line kind so refl
-  written_of (said.Replies groups) so has = IsWritten.replies groups.items so refl
+  written_of (said.Replies groups tail) so has = IsWritten.replies groups.items tail so refl
   written_of (said.Lost groups) so has = IsWritten.lost groups.items so refl
   written_of said.ReadFault so has = absurd (no_yes has)
   written_of said.Memory so has = absurd (no_yes has)
 
-  pub cut_off : (it : Said) → So it → Spoken it → status ≡ WriteFault → Rose faults faults_after × WasCutOff words left left_after taken taken_after losses losses_after journal
+  pub cut_off : (it : Said) → So it → Spoken it → status ≡ WriteFault →
+      Rose faults faults_after × WasCutOff words left left_after taken taken_after losses losses_after journal
   cut_off it so (Says.whole e h a) is = absurd (no_write_fault it (sym e ∙ is))
   cut_off it so (Says.front e h rose n a) is = (rose, record { text = text_of it; is_written = written_of it so h; count = n; written = a })
   cut_off it so (Says.no_text e h same) is = absurd (no_write_fault it (sym e ∙ is))
@@ -202,82 +217,101 @@ module _ (words : List (List ℕ)) (left left_after : Option (List ℕ)) (reads 
   any P it own fault memory (Says.no_text e h same) = subst P (sym e) own
   any P it own fault memory (Says.no_memory e not same) = subst P (sym e) memory
 
-  refusal_of : (text : List ℕ) (line kind l k : ℕ) → left ≡ Some text → length text ≤ 67108864 → IsRefusedAt text line kind → IsRefusal left left_after l k → (l ≡ line) × (k ≡ kind)
+  refusal_of : (text : List ℕ) (line kind l k : ℕ) → left ≡ Some text → length text ≤ 67108864 → IsRefusedAt text line kind →
+      IsRefusal left left_after l k → (l ≡ line) × (k ≡ kind)
   refusal_of text line kind l k is short why (came, consumes, inl so) =
       let same : came ≡ text = whole_text text came left left_after is consumes so.1 in
       refused_once text l k line kind (subst (λ (t : List ℕ). IsRefusedAt t l k) same so.0) why
-  refusal_of text line kind l k is short why (came, consumes, inr so) = absurd (omega (arith, so.2, came_short text came left left_after is consumes))
+  refusal_of text line kind l k is short why (came, consumes, inr so) =
+      absurd (omega (arith, so.2, came_short text came left left_after is consumes))
 
-  no_run : (text : List ℕ) (line kind : ℕ) (groups : List GroupHistory) → left ≡ Some text → IsRefusedAt text line kind → Ran left left_after groups → ⊥
-  no_run text line kind groups is why ran =
-      let same : ran.gave.text ≡ text = whole_text text ran.gave.text left left_after is ran.gave.read ran.gave.ended in
-      exclusive text line kind ran.threads why (subst (λ (t : List ℕ). Spells t ran.threads) same ran.gave.spelled) ran.gave.built
+  no_run : (text : List ℕ) (line kind : ℕ) (threads : List Plan) → left ≡ Some text → IsRefusedAt text line kind →
+      Gives left left_after threads → ⊥
+  no_run text line kind threads is why gave =
+      let same : gave.text ≡ text = whole_text text gave.text left left_after is gave.read gave.ended in
+      exclusive text line kind threads why (subst (λ (t : List ℕ). Spells t threads) same gave.spelled) gave.built
 
-  may_refuse : (it : Said) → So it → (text : List ℕ) (line kind : ℕ) → left ≡ Some text → length text ≤ 67108864 → SpellsOnce words → IsRefusedAt text line kind → MayRefuse line kind (status_of it)
+  may_refuse : (it : Said) → So it → (text : List ℕ) (line kind : ℕ) → left ≡ Some text → length text ≤ 67108864 → SpellsOnce words →
+      IsRefusedAt text line kind → MayRefuse line kind (status_of it)
   may_refuse said.Usage so text line kind is short spells why = absurd (so spells)
   may_refuse (said.Refused l k) so text line kind is short spells why = refusal_of text line kind l k is short why so
-  may_refuse (said.Replies groups) so text line kind is short spells why = absurd (no_run text line kind groups.items is why so.ran)
-  may_refuse (said.Lost groups) so text line kind is short spells why = absurd (no_run text line kind groups.items is why so.ran)
+  may_refuse (said.Replies groups tail) so text line kind is short spells why = absurd (no_run text line kind so.threads is why so.gave)
+  may_refuse (said.Lost groups) so text line kind is short spells why = absurd (no_run text line kind so.threads is why so.gave)
   may_refuse said.ReadFault so text line kind is short spells why = tt
   may_refuse said.Memory so text line kind is short spells why = tt
 
-  pub refused : (it : Said) → So it → Spoken it → (text : List ℕ) (line kind : ℕ) → left ≡ Some text → length text ≤ 67108864 → SpellsOnce words → IsRefusedAt text line kind → MayRefuse line kind status
-  refused it so says text line kind is short spells why = any (MayRefuse line kind) it (may_refuse it so text line kind is short spells why) tt tt says
+  pub refused : (it : Said) → So it → Spoken it → (text : List ℕ) (line kind : ℕ) → left ≡ Some text → length text ≤ 67108864 →
+      SpellsOnce words → IsRefusedAt text line kind → MayRefuse line kind status
+  refused it so says text line kind is short spells why =
+      any (MayRefuse line kind) it (may_refuse it so text line kind is short spells why) tt tt says
 
-  long_refusal : (text : List ℕ) (l k : ℕ) → left ≡ Some text → 67108864 < length text → IsRefusal left left_after l k → (l ≡ 0) × (k ≡ kind_of_long)
-  long_refusal text l k is long (came, consumes, inl so) = absurd (omega (arith, so.2, ap length (whole_text text came left left_after is consumes so.1)))
+  long_refusal : (text : List ℕ) (l k : ℕ) → left ≡ Some text → 67108864 < length text → IsRefusal left left_after l k →
+      (l ≡ 0) × (k ≡ kind_of_long)
+  long_refusal text l k is long (came, consumes, inl so) =
+      absurd (omega (arith, so.2, ap length (whole_text text came left left_after is consumes so.1)))
   long_refusal text l k is long (came, consumes, inr so) = (so.1, so.0)
 
-  no_long_run : (text : List ℕ) (groups : List GroupHistory) → left ≡ Some text → 67108864 < length text → Ran left left_after groups → ⊥
-  no_long_run text groups is long ran =
-      absurd (omega (arith, ran.gave.spelled.fits, ap length (whole_text text ran.gave.text left left_after is ran.gave.read ran.gave.ended)))
+  no_long_run : (text : List ℕ) (threads : List Plan) → left ≡ Some text → 67108864 < length text → Gives left left_after threads → ⊥
+  no_long_run text threads is long gave =
+      absurd (omega (arith, gave.spelled.fits, ap length (whole_text text gave.text left left_after is gave.read gave.ended)))
 
-  may_refuse_long : (it : Said) → So it → (text : List ℕ) → left ≡ Some text → 67108864 < length text → SpellsOnce words → MayRefuseLong (status_of it)
+  may_refuse_long : (it : Said) → So it → (text : List ℕ) → left ≡ Some text → 67108864 < length text → SpellsOnce words →
+      MayRefuseLong (status_of it)
   may_refuse_long said.Usage so text is long spells = absurd (so spells)
   may_refuse_long (said.Refused l k) so text is long spells = long_refusal text l k is long so
-  may_refuse_long (said.Replies groups) so text is long spells = absurd (no_long_run text groups.items is long so.ran)
-  may_refuse_long (said.Lost groups) so text is long spells = absurd (no_long_run text groups.items is long so.ran)
+  may_refuse_long (said.Replies groups tail) so text is long spells = absurd (no_long_run text so.threads is long so.gave)
+  may_refuse_long (said.Lost groups) so text is long spells = absurd (no_long_run text so.threads is long so.gave)
   may_refuse_long said.ReadFault so text is long spells = tt
   may_refuse_long said.Memory so text is long spells = tt
 
-  pub too_long : (it : Said) → So it → Spoken it → (text : List ℕ) → left ≡ Some text → 67108864 < length text → SpellsOnce words → MayRefuseLong status
+  pub too_long : (it : Said) → So it → Spoken it → (text : List ℕ) → left ≡ Some text → 67108864 < length text → SpellsOnce words →
+      MayRefuseLong status
   too_long it so says text is long spells = any MayRefuseLong it (may_refuse_long it so text is long spells) tt tt says
 
-  no_refusal : (text : List ℕ) (threads : List Plan) (l k : ℕ) → left ≡ Some text → Spells text threads → first_unbuilt threads ≡ None → IsRefusal left left_after l k → ⊥
+  no_refusal : (text : List ℕ) (threads : List Plan) (l k : ℕ) → left ≡ Some text → Spells text threads → first_unbuilt threads ≡ None →
+      IsRefusal left left_after l k → ⊥
   no_refusal text threads l k is spelled built (came, consumes, inl so) =
       let same : came ≡ text = whole_text text came left left_after is consumes so.1 in
       exclusive text l k threads (subst (λ (t : List ℕ). IsRefusedAt t l k) same so.0) spelled built
-  no_refusal text threads l k is spelled built (came, consumes, inr so) = absurd (omega (arith, so.2, spelled.fits, came_short text came left left_after is consumes))
+  no_refusal text threads l k is spelled built (came, consumes, inr so) =
+      absurd (omega (arith, so.2, spelled.fits, came_short text came left left_after is consumes))
 
-  may_answer : (it : Said) → So it → (text : List ℕ) (threads : List Plan) → left ≡ Some text → SpellsOnce words → Spells text threads → first_unbuilt threads ≡ None → MayAnswer (status_of it)
+  may_answer : (it : Said) → So it → (text : List ℕ) (threads : List Plan) → left ≡ Some text → SpellsOnce words → Spells text threads →
+      first_unbuilt threads ≡ None → MayAnswer (status_of it)
   may_answer said.Usage so text threads is spells spelled built = absurd (so spells)
   may_answer (said.Refused l k) so text threads is spells spelled built = absurd (no_refusal text threads l k is spelled built so)
-  may_answer (said.Replies groups) so text threads is spells spelled built = tt
+  may_answer (said.Replies groups tail) so text threads is spells spelled built = tt
   may_answer (said.Lost groups) so text threads is spells spelled built = tt
   may_answer said.ReadFault so text threads is spells spelled built = tt
   may_answer said.Memory so text threads is spells spelled built = tt
 
-  pub answered : (it : Said) → So it → Spoken it → (text : List ℕ) (threads : List Plan) → left ≡ Some text → SpellsOnce words → Spells text threads → first_unbuilt threads ≡ None → MayAnswer status
-  answered it so says text threads is spells spelled built = any MayAnswer it (may_answer it so text threads is spells spelled built) tt tt says
+  pub answered : (it : Said) → So it → Spoken it → (text : List ℕ) (threads : List Plan) → left ≡ Some text → SpellsOnce words →
+      Spells text threads → first_unbuilt threads ≡ None → MayAnswer status
+  answered it so says text threads is spells spelled built =
+      any MayAnswer it (may_answer it so text threads is spells spelled built) tt tt says
 
 -- what was not run, and what a run has to say
 
-pub said_unread : (words : List (List ℕ)) (left left_after : Option (List ℕ)) (reads reads_after losses losses_after : ℕ) (journal : List Logged) (it : Said) →
+pub said_unread : (words : List (List ℕ)) (left left_after : Option (List ℕ)) (reads reads_after losses losses_after : ℕ)
+    (journal : List Logged) (it : Said) →
     IsUnread left left_after reads reads_after it → IsSaid words left left_after reads reads_after losses losses_after journal it
 said_unread words left left_after reads reads_after losses losses_after journal said.Usage so = absurd so
 said_unread words left left_after reads reads_after losses losses_after journal (said.Refused line kind) so = so
-said_unread words left left_after reads reads_after losses losses_after journal (said.Replies groups) so = absurd so
+said_unread words left left_after reads reads_after losses losses_after journal (said.Replies groups tail) so = absurd so
 said_unread words left left_after reads reads_after losses losses_after journal (said.Lost groups) so = absurd so
 said_unread words left left_after reads reads_after losses losses_after journal said.ReadFault so = so
 said_unread words left left_after reads reads_after losses losses_after journal said.Memory so = tt
 
-pub said_run : (words : List (List ℕ)) (left left_after : Option (List ℕ)) (reads reads_after losses losses_after : ℕ) (journal : List Logged) (threads : List Plan) (it : Said) →
-    Gives left left_after threads → IsRunOf threads losses losses_after journal it → IsSaid words left left_after reads reads_after losses losses_after journal it
-said_run words left left_after reads reads_after losses losses_after journal threads said.Usage gave so = absurd so
-said_run words left left_after reads reads_after losses losses_after journal threads (said.Refused line kind) gave so = absurd so
-said_run words left left_after reads reads_after losses losses_after journal threads (said.Replies groups) gave so =
-    record { ran = record { threads = threads; gave = gave; replies = so.0 }; all = so.1; destroyed = so.2; went_well = so.3; uploads = so.4 }
-said_run words left left_after reads reads_after losses losses_after journal threads (said.Lost groups) gave so =
-    record { ran = record { threads = threads; gave = gave; replies = so.0 }; rose = so.1 }
-said_run words left left_after reads reads_after losses losses_after journal threads said.ReadFault gave so = absurd so
-said_run words left left_after reads reads_after losses losses_after journal threads said.Memory gave so = tt
+pub said_run : (words : List (List ℕ)) (left left_after : Option (List ℕ)) (reads reads_after losses losses_after : ℕ)
+    (journal : List Logged) (threads : List Plan) (seed : ℕ) (summary : Bool) (it : Said) →
+    Names words seed summary → Gives left left_after threads → IsRunOf threads seed summary losses losses_after journal it →
+    IsSaid words left left_after reads reads_after losses losses_after journal it
+said_run words left left_after reads reads_after losses losses_after journal threads seed summary said.Usage named gave so = absurd so
+said_run words left left_after reads reads_after losses losses_after journal threads seed summary (said.Refused line kind) named gave so =
+    absurd so
+said_run words left left_after reads reads_after losses losses_after journal threads seed summary (said.Replies groups tail) named gave so =
+    record { seed = seed; summary = summary; named = named; threads = threads; gave = gave; ran = so.0; tail_is = so.1 }
+said_run words left left_after reads reads_after losses losses_after journal threads seed summary (said.Lost groups) named gave so =
+    record { seed = seed; summary = summary; named = named; threads = threads; gave = gave; answers = so.0; rose = so.1 }
+said_run words left left_after reads reads_after losses losses_after journal threads seed summary said.ReadFault named gave so = absurd so
+said_run words left left_after reads reads_after losses losses_after journal threads seed summary said.Memory named gave so = tt

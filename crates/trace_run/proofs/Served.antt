@@ -1,53 +1,62 @@
--- A trace of no thread, the first thread, and a link of a new back.
-use Rattle.std.proofs.Common.{◌≡◌, ℕ, ◌<◌, ◌≤◌, List, [], ◌∷◌, None, length, get_or, map, refl, sym, ap, ◌∙◌, subst, arith}
+-- The threads of a trace that is not refused are served.
+use Rattle.std.proofs.Common.{◌≡◌, ℕ, Bool, true, false, cond, List, [], ◌∷◌, Option, Some, None, min, refl, ap, arith}
 use Rattle.std.specs.List.{All}
-use Rattle.std.proofs.lemmas.List.Elements.{All-head}
-use Rattle.vk_device.specs.declared.logged.Logged.{Logged}
-use Rattle.vk_device.specs.Journal.{kind_of}
-use Rattle.back_core.specs.declared.back_event.BackEvent.{BackEvent}
-use Rattle.back_core.specs.Link.{IsNew}
-use Rattle.back_core.specs.History.{link_of}
-use Rattle.back_core.specs.Frame.{host_bytes}
-use Rattle.back_core.specs.Run.{IsRun, journal_of}
-use Rattle.back_core.specs.Back.{BackModel, ending_of}
-use Rattle.trace_text.specs.declared.trace.ThreadPlan.{ThreadPlan}
-use Rattle.trace_text.specs.Reading.{plan}
-use Rattle.reply_text.specs.declared.history.GroupHistory.{GroupHistory}
-use Rattle.trace_run.specs.Runs.{IsSound, AreReplies, AnswerAll, WentWell, due_in}
+use Rattle.std.proofs.lemmas.List.Elements.{All-nil, All-cons}
+use Rattle.gl_model.specs.Sizes.{HasItsData}
+use Rattle.front_core.specs.Share.{is_built}
+use Rattle.trace_text.specs.declared.trace.Line.{Line}
+use Rattle.trace_text.specs.Reading.{Plan}
+use Rattle.trace_text.specs.Orders.{IsTrace}
+use Rattle.world_core.specs.World.{IsServed}
+use Rattle.trace_run.specs.Runs.{IsSound, first_of, first_unbuilt, unbuilt_line}
+use Rattle.trace_run.proofs.Threads.{one_of}
 
--- nothing happened at a back that was not used
-nothing_went : (journal : List Logged) → journal ≡ [] → WentWell journal
-unfolding journal_of IsRun ending_of
-nothing_went journal empty = record { history = []; run = tt; journal_is = empty; going = refl }
+-- where the smaller one of two lines is none, there is neither
+neither : (line other : Option ℕ) → first_of line other ≡ None → (line ≡ None) × (other ≡ None)
+neither None other e = (refl, e)
+neither (Some line) None e = absurd (cc)
+neither (Some line) (Some other) e = absurd (cc)
 
-nothing_written : (journal : List Logged) (due : ℕ) → journal ≡ [] → host_bytes journal ≤ due
-unfolding host_bytes
-nothing_written journal due empty = subst (λ (l : List Logged). host_bytes l ≤ due) (sym empty) (omega arith)
+abbrev IsBuilt : Line → Type 0
+IsBuilt line = is_built line.call ≡ true
 
--- a trace without threads has no replies, and what was not used holds no object
-pub nothing_ran : (threads : List ThreadPlan) (groups : List GroupHistory) (journal : List Logged) → length threads ≡ 0 → groups ≡ [] → journal ≡ [] →
-    AreReplies (map plan threads) groups × AnswerAll (map plan threads) groups × ((id : ℕ) → kind_of journal id ≡ None)
-    × WentWell journal × (host_bytes journal ≤ due_in groups)
-unfolding kind_of
-nothing_ran (thread ∷ threads) groups journal none no_groups empty = absurd (omega (arith, none))
-nothing_ran [] groups journal none no_groups empty = (
-  subst (AreReplies []) (sym no_groups) tt,
-  subst (AnswerAll []) (sym no_groups) tt,
-  λ id. ap (λ (l : List Logged). kind_of l id) empty,
-  nothing_went journal empty,
-  nothing_written journal (due_in groups) empty,
-)
+-- a line that is built, before others
+built_next : (b : Bool) (number : ℕ) (rest : Option ℕ) → cond b rest (Some number) ≡ None → (b ≡ true) × (rest ≡ None)
+built_next true number rest e = (refl, e)
+built_next false number rest e = absurd (cc)
 
--- the first thread
-pub first_sound : (threads : List ThreadPlan) (thread : ThreadPlan) → 0 < length threads → thread ≡ get_or threads 0 thread → All IsSound (map plan threads) → IsSound (plan thread)
-first_sound [] thread some is all = absurd (omega (arith, some))
-first_sound (first ∷ threads) thread some is all = subst (λ (t : ThreadPlan). IsSound (plan t)) (sym is) (All-head IsSound (plan first) (map plan threads) all)
+lines_built : (lines : List Line) → unbuilt_line lines ≡ None → All IsBuilt lines
+lines_built [] none = All-nil IsBuilt
+lines_built (line ∷ lines) none =
+    let next = built_next (is_built line.call) line.number (unbuilt_line lines) none in
+    All-cons IsBuilt line lines next.0 (lines_built lines next.1)
 
--- a link of a back at which nothing happened is new
-pub link_is_new : ((g : ℕ) → IsNew (link_of [] g) g) → (h : List BackEvent) (g group : ℕ) → h ≡ [] → g ≡ group → IsNew (link_of h g) group
-link_is_new law h g group nothing same =
-    subst (λ (l : List BackEvent). IsNew (link_of l g) group) (sym nothing) (subst (IsNew (link_of [] g)) same (law g))
+abbrev AreBuilt : Plan → Type 0
+AreBuilt thread = All IsBuilt thread.lines
 
-pub new_link : (D : Type 0) → ((g : ℕ) → IsNew (link_of [] g) g) → (back made : BackModel D) (device : D) (g group : ℕ) → back ≡ made → made ≡ record { device = device; history = [] } →
-    g ≡ group → IsNew (link_of back.history g) group
-new_link D law back made device g group is new same = link_is_new law back.history g group (ap (λ (b : BackModel D). b.history) (is ∙ new)) same
+threads_built : (threads : List Plan) → first_unbuilt threads ≡ None → All AreBuilt threads
+threads_built [] none = All-nil AreBuilt
+threads_built (thread ∷ threads) none =
+    let both = neither (unbuilt_line thread.lines) (first_unbuilt threads) none in
+    All-cons AreBuilt thread threads (lines_built thread.lines both.0) (threads_built threads both.1)
+
+pub are_served : (threads : List Plan) → IsTrace threads → first_unbuilt threads ≡ None → All IsSound threads → IsServed threads
+are_served threads trace built sound = record {
+  trace = trace;
+  built = λ thread place line is.
+      one_of IsBuilt is.plan.lines place line (one_of AreBuilt threads thread is.plan (threads_built threads built) is.is_thread) is.is_line;
+  its_data = λ thread place line is.
+      one_of (λ (l : Line). HasItsData l.call) is.plan.lines place line
+      (one_of IsSound threads thread is.plan sound is.is_thread).its_data is.is_line;
+}
+
+-- the smaller one of three lines
+pub first_of_three : (a b c : Option ℕ) → first_of a (first_of b c) ≡ first_of (first_of a b) c
+first_of_three None b c = refl
+first_of_three (Some a) None c = refl
+first_of_three (Some a) (Some b) None = refl
+first_of_three (Some a) (Some b) (Some c) = let e : min a (min b c) ≡ min (min a b) c = omega arith in ap (λ (n : ℕ). Some n) e
+
+pub first_of_none : (a : Option ℕ) → first_of a None ≡ a
+first_of_none None = refl
+first_of_none (Some a) = refl

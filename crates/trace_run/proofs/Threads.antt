@@ -70,7 +70,7 @@ abbrev AreSound : State → Type 0
 AreSound s = All IsSound s.threads
 
 -- one of the threads
-one_of : {X : Type 0} (P : X → Type 0) (xs : List X) (i : ℕ) (x : X) → All P xs → slice_get xs i ≡ Some x → P x
+pub one_of : {X : Type 0} (P : X → Type 0) (xs : List X) (i : ℕ) (x : X) → All P xs → slice_get xs i ≡ Some x → P x
 one_of P xs i x all e = subst P (get_or_from_slice_get xs i x x e) (All-get_or P xs i x (slice_get_within xs i x e) all)
 
 call_sound : (s t : State) (words : List (List ℕ)) → AreSound s → IsCallLine s words t → AreSound t
@@ -78,7 +78,11 @@ call_sound s t words h is =
     let thread = one_of IsSound s.threads is.thread is.plan h is.is_thread in
     subst AreSound (sym is.new)
     (All-set IsSound s.threads is.thread _
-    (record { low = thread.low; its_data = All-push (λ (line : Line). HasItsData line.call) is.plan.lines _ thread.its_data (its_data is.call is.length_fits) })
+    (record {
+      low = thread.low;
+      its_data = All-push (λ (line : Line). HasItsData line.call) is.plan.lines _ thread.its_data
+          (its_data is.call is.length_fits);
+    })
     h)
 
 body_sound : (s t : State) (words : List (List ℕ)) → AreSound s → IsBodyLine s words t → AreSound t
@@ -89,7 +93,8 @@ phase_sound : (p : Phase) (s t : State) (line : List ℕ) → AreSound s → IsP
 phase_sound phase.Start s t line h is = subst AreSound (sym is.1) h
 phase_sound phase.Header s t line h (inl is) = subst AreSound (sym is.1) h
 phase_sound phase.Header s t line h (inr is) =
-    subst AreSound (sym is.new) (All-push IsSound s.threads _ h (record { low = omega (arith, is.group_fits); its_data = All-nil (λ (line : Line). HasItsData line.call) }))
+    subst AreSound (sym is.new) (All-push IsSound s.threads _ h
+    (record { low = omega (arith, is.group_fits); its_data = All-nil (λ (line : Line). HasItsData line.call) }))
 phase_sound phase.Body s t line h is = body_sound s t is.0 h is.2
 phase_sound phase.Ended s t line h is = absurd is
 

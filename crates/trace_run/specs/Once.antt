@@ -5,23 +5,27 @@ use Rattle.std.specs.Io.KnownBytes.{Appends, Consumes, IsAtEnd}
 use Rattle.trace_io.specs.declared.status.Status.{Status}
 use Rattle.trace_io.specs.declared.status.Status.TheVariants.{Ok, Usage, Trace, ReadFault, WriteFault, DeviceLost, Memory}
 use Rattle.vk_device.specs.declared.logged.Logged.{Logged}
-use Rattle.vk_device.specs.Journal.{kind_of}
-use Rattle.back_core.specs.Frame.{host_bytes}
 use Rattle.faults.specs.Faults.{Rose}
 use Rattle.command_line.specs.declared.command.Command.TheVariants.{Once}
 use Rattle.command_line.specs.Commands as commands
 use Rattle.trace_text.specs.Reading.{Plan, trace_of}
 use Rattle.trace_text.specs.Traces.{Spells}
 use Rattle.reply_text.specs.declared.history.GroupHistory.{GroupHistory}
-use Rattle.reply_text.specs.declared.history.Tail.TheVariants.{End, Lost}
+use Rattle.reply_text.specs.declared.history.Tail.{Tail}
+use Rattle.reply_text.specs.declared.history.Tail.TheVariants.{End, Summary, Lost}
 use Rattle.reply_text.specs.Replies.{replies_text}
 use Rattle.trace_run.specs.declared.saying.Said.{Said}
 use Rattle.trace_run.specs.declared.saying.Said.TheVariants as said
-use Rattle.trace_run.specs.Runs.{first_unbuilt, AreReplies, AnswerAll, WentWell, due_in}
+use Rattle.run_summary.specs.Counting.{counts_of}
+use Rattle.trace_run.specs.Runs.{first_unbuilt, AnswersFirst, RanAll}
+
+-- the words of the command `once`, with this seed, and with a summary or without
+abbrev pub Names : List (List ℕ) → ℕ → Bool → Type 0
+Names words seed summary = commands.Spells words (Once seed summary)
 
 -- the words of the command that is served
 abbrev pub SpellsOnce : List (List ℕ) → Type 0
-SpellsOnce words = (seed : ℕ) × commands.Spells words (Once seed false)
+SpellsOnce words = (seed : ℕ) × (summary : Bool) × Names words seed summary
 
 abbrev pub line_feed : List ℕ
 line_feed = 10 ∷ []
@@ -32,7 +36,7 @@ usage_line = codes "usage: angle_run once --seed N [--summary] | threads --worke
 unfoldable pub refused_text : ℕ → ℕ → List ℕ
 refused_text line kind = codes "angle-reply 1" ++ line_feed ++ codes "refused " ++ decimal line ++ codes " " ++ decimal kind ++ line_feed
 
--- The source gave a text to its end. It spells a trace of at most one thread, each of whose calls is built.
+-- The source gave a text to its end. It spells a trace each of whose calls is built.
 pub record Gives (left left_after : Option (List ℕ)) (threads : List Plan) : Type 0 where
   pub text : List ℕ
   pub read : Consumes left left_after text
@@ -40,36 +44,44 @@ pub record Gives (left left_after : Option (List ℕ)) (threads : List Plan) : T
   pub spelled : Spells text threads
   pub built : first_unbuilt threads ≡ None
 
--- The source gave such a trace. These are the replies to some first lines of it, in order, each with its line, and legal.
-pub record Ran (left left_after : Option (List ℕ)) (groups : List GroupHistory) : Type 0 where
+-- the end of the text of replies, where all lines were answered: with the counts of the run, if a summary was asked for
+abbrev pub tail_of : Bool → List GroupHistory → List Logged → Tail
+tail_of true groups journal = Summary (counts_of groups journal)
+tail_of false groups journal = End
+
+-- The source gave such a trace, and all its lines were answered, in the order of the schedule that the words name.
+pub record RanWhole (words : List (List ℕ)) (left left_after : Option (List ℕ)) (groups : List GroupHistory) (tail : Tail)
+    (journal : List Logged) : Type 0 where
+  pub seed : ℕ
+  pub summary : Bool
+  pub named : Names words seed summary
   pub threads : List Plan
   pub gave : Gives left left_after threads
-  pub replies : AreReplies threads groups
+  pub ran : RanAll threads seed groups journal
+  pub tail_is : tail ≡ tail_of summary groups journal
 
--- All lines of the trace were answered, no call on the device failed, the host wrote no more bytes than were due, and every object was
--- destroyed.
-pub record RanWhole (left left_after : Option (List ℕ)) (groups : List GroupHistory) (journal : List Logged) : Type 0 where
-  pub ran : Ran left left_after groups
-  pub all : AnswerAll ran.threads groups
-  pub destroyed : (id : ℕ) → kind_of journal id ≡ None
-  pub went_well : WentWell journal
-  pub uploads : host_bytes journal ≤ due_in groups
-
--- All lines of the trace were answered, the sink took the replies, and every object was destroyed.
-pub record Answered (left left_after taken taken_after : Option (List ℕ)) (journal : List Logged) : Type 0 where
+-- all lines of the trace were answered, and the sink took the replies
+pub record Answered (words : List (List ℕ)) (left left_after taken taken_after : Option (List ℕ)) (journal : List Logged) : Type 0 where
   pub groups : List GroupHistory
-  pub ran : RanWhole left left_after groups journal
-  pub written : Appends taken taken_after (replies_text groups End)
+  pub tail : Tail
+  pub ran : RanWhole words left left_after groups tail journal
+  pub written : Appends taken taken_after (replies_text groups tail)
 
--- some first lines of the trace were answered, and then the device was lost
-pub record RanUntilLost (left left_after : Option (List ℕ)) (losses losses_after : ℕ) (groups : List GroupHistory) : Type 0 where
-  pub ran : Ran left left_after groups
+-- the first calls of the schedule were answered, and then the device was lost
+pub record RanUntilLost (words : List (List ℕ)) (left left_after : Option (List ℕ)) (losses losses_after : ℕ)
+    (groups : List GroupHistory) : Type 0 where
+  pub seed : ℕ
+  pub summary : Bool
+  pub named : Names words seed summary
+  pub threads : List Plan
+  pub gave : Gives left left_after threads
+  pub answers : AnswersFirst threads seed groups
   pub rose : Rose losses losses_after
 
 -- The device was lost. The sink took the replies so far, and then that it was lost.
-pub record WasLost (left left_after taken taken_after : Option (List ℕ)) (losses losses_after : ℕ) : Type 0 where
+pub record WasLost (words : List (List ℕ)) (left left_after taken taken_after : Option (List ℕ)) (losses losses_after : ℕ) : Type 0 where
   pub groups : List GroupHistory
-  pub ran : RanUntilLost left left_after losses losses_after groups
+  pub ran : RanUntilLost words left left_after losses losses_after groups
   pub written : Appends taken taken_after (replies_text groups Lost)
 
 -- the kinds of refusal beside the faults of a line: too many bytes came, and the trace is none that is served
@@ -82,7 +94,8 @@ kind_of_unbuilt = 10
 -- where and why a text is refused: its first fault, or the first line of its trace that is not built
 pub data IsRefusedAt (text : List ℕ) (line kind : ℕ) : Type 0 where
   fault : trace_of text ≡ Err (record { line = line; kind = kind }) → IsRefusedAt text line kind
-  unbuilt : (threads : List Plan) → Spells text threads → first_unbuilt threads ≡ Some line → kind ≡ kind_of_unbuilt → IsRefusedAt text line kind
+  unbuilt : (threads : List Plan) → Spells text threads → first_unbuilt threads ≡ Some line → kind ≡ kind_of_unbuilt →
+      IsRefusedAt text line kind
 
 -- why what came is refused: so is its text, or more than 67,108,864 bytes came
 abbrev pub IsRefusal : (left left_after : Option (List ℕ)) (line kind : ℕ) → Type 0
@@ -101,9 +114,10 @@ pub data IsWritten (words : List (List ℕ)) (left left_after : Option (List ℕ
   usage : ¬ SpellsOnce words → text ≡ usage_line → IsWritten words left left_after losses losses_after journal text
   refusal : (line kind : ℕ) → IsRefusal left left_after line kind → text ≡ refused_text line kind →
       IsWritten words left left_after losses losses_after journal text
-  replies : (groups : List GroupHistory) → RanWhole left left_after groups journal → text ≡ replies_text groups End →
+  replies : (groups : List GroupHistory) (tail : Tail) → RanWhole words left left_after groups tail journal →
+      text ≡ replies_text groups tail →
       IsWritten words left left_after losses losses_after journal text
-  lost : (groups : List GroupHistory) → RanUntilLost left left_after losses losses_after groups → text ≡ replies_text groups Lost →
+  lost : (groups : List GroupHistory) → RanUntilLost words left left_after losses losses_after groups → text ≡ replies_text groups Lost →
       IsWritten words left left_after losses losses_after journal text
 
 -- the sink took some front of such a text
@@ -120,35 +134,38 @@ pub record WasCutOff (words : List (List ℕ)) (left left_after taken taken_afte
 abbrev pub IsUnread : (left left_after : Option (List ℕ)) (reads reads_after : ℕ) → Said → Type 0
 IsUnread left left_after reads reads_after said.Usage = ⊥
 IsUnread left left_after reads reads_after (said.Refused line kind) = IsRefusal left left_after line kind
-IsUnread left left_after reads reads_after (said.Replies groups) = ⊥
+IsUnread left left_after reads reads_after (said.Replies groups tail) = ⊥
 IsUnread left left_after reads reads_after (said.Lost groups) = ⊥
 IsUnread left left_after reads reads_after said.ReadFault = Rose reads reads_after
 IsUnread left left_after reads reads_after said.Memory = Unit {0}
 
 -- what a run of these threads has to say is so
-abbrev pub IsRunOf : (threads : List Plan) (losses losses_after : ℕ) (journal : List Logged) → Said → Type 0
-IsRunOf threads losses losses_after journal said.Usage = ⊥
-IsRunOf threads losses losses_after journal (said.Refused line kind) = ⊥
-IsRunOf threads losses losses_after journal (said.Replies groups) =
-    AreReplies threads groups.items × AnswerAll threads groups.items × ((id : ℕ) → kind_of journal id ≡ None)
-    × WentWell journal × (host_bytes journal ≤ due_in groups.items)
-IsRunOf threads losses losses_after journal (said.Lost groups) = AreReplies threads groups.items × Rose losses losses_after
-IsRunOf threads losses losses_after journal said.ReadFault = ⊥
-IsRunOf threads losses losses_after journal said.Memory = Unit {0}
+abbrev pub IsRunOf : (threads : List Plan) (seed : ℕ) (summary : Bool) (losses losses_after : ℕ) (journal : List Logged) → Said → Type 0
+IsRunOf threads seed summary losses losses_after journal said.Usage = ⊥
+IsRunOf threads seed summary losses losses_after journal (said.Refused line kind) = ⊥
+IsRunOf threads seed summary losses losses_after journal (said.Replies groups tail) =
+    RanAll threads seed groups.items journal × (tail ≡ tail_of summary groups.items journal)
+IsRunOf threads seed summary losses losses_after journal (said.Lost groups) =
+    AnswersFirst threads seed groups.items × Rose losses losses_after
+IsRunOf threads seed summary losses losses_after journal said.ReadFault = ⊥
+IsRunOf threads seed summary losses losses_after journal said.Memory = Unit {0}
 
 -- what there is to say is so
-abbrev pub IsSaid : (words : List (List ℕ)) (left left_after : Option (List ℕ)) (reads reads_after losses losses_after : ℕ) (journal : List Logged) → Said → Type 0
+abbrev pub IsSaid : (words : List (List ℕ)) (left left_after : Option (List ℕ)) (reads reads_after losses losses_after : ℕ)
+    (journal : List Logged) → Said → Type 0
 IsSaid words left left_after reads reads_after losses losses_after journal said.Usage = ¬ SpellsOnce words
 IsSaid words left left_after reads reads_after losses losses_after journal (said.Refused line kind) = IsRefusal left left_after line kind
-IsSaid words left left_after reads reads_after losses losses_after journal (said.Replies groups) = RanWhole left left_after groups.items journal
-IsSaid words left left_after reads reads_after losses losses_after journal (said.Lost groups) = RanUntilLost left left_after losses losses_after groups.items
+IsSaid words left left_after reads reads_after losses losses_after journal (said.Replies groups tail) =
+    RanWhole words left left_after groups.items tail journal
+IsSaid words left left_after reads reads_after losses losses_after journal (said.Lost groups) =
+    RanUntilLost words left left_after losses losses_after groups.items
 IsSaid words left left_after reads reads_after losses losses_after journal said.ReadFault = Rose reads reads_after
 IsSaid words left left_after reads reads_after losses losses_after journal said.Memory = Unit {0}
 
 abbrev pub text_of : Said → List ℕ
 text_of said.Usage = usage_line
 text_of (said.Refused line kind) = refused_text line kind
-text_of (said.Replies groups) = replies_text groups.items End
+text_of (said.Replies groups tail) = replies_text groups.items tail
 text_of (said.Lost groups) = replies_text groups.items Lost
 text_of said.ReadFault = []
 text_of said.Memory = []
@@ -157,7 +174,7 @@ text_of said.Memory = []
 abbrev pub status_of : Said → Status
 status_of said.Usage = Usage
 status_of (said.Refused line kind) = Trace line kind
-status_of (said.Replies groups) = Ok
+status_of (said.Replies groups tail) = Ok
 status_of (said.Lost groups) = DeviceLost
 status_of said.ReadFault = ReadFault
 status_of said.Memory = Memory
@@ -165,21 +182,25 @@ status_of said.Memory = Memory
 abbrev pub has_text : Said → Bool
 has_text said.Usage = true
 has_text (said.Refused line kind) = true
-has_text (said.Replies groups) = true
+has_text (said.Replies groups tail) = true
 has_text (said.Lost groups) = true
 has_text said.ReadFault = false
 has_text said.Memory = false
 
 -- a text was written: all of it, or some front of it where a fault of the sink was counted
-pub data Puts (text : List ℕ) (good : Status) (taken taken_after : Option (List ℕ)) (faults faults_after : ℕ) (status : Status) : Type 0 where
+pub data Puts (text : List ℕ) (good : Status) (taken taken_after : Option (List ℕ)) (faults faults_after : ℕ)
+    (status : Status) : Type 0 where
   all : status ≡ good → Appends taken taken_after text → Puts text good taken taken_after faults faults_after status
-  some : status ≡ WriteFault → Rose faults faults_after → (n : ℕ) → Appends taken taken_after (take n text) → Puts text good taken taken_after faults faults_after status
+  some : status ≡ WriteFault → Rose faults faults_after → (n : ℕ) → Appends taken taken_after (take n text) →
+      Puts text good taken taken_after faults faults_after status
 
 -- What the sink took of it, and the status: the whole text, some front of it where a fault of the sink was counted, or
 -- nothing where there is no text or no memory for it. The usage line takes none.
 pub data Says (it : Said) (taken taken_after : Option (List ℕ)) (faults faults_after : ℕ) (status : Status) : Type 0 where
-  whole : status ≡ status_of it → has_text it ≡ true → Appends taken taken_after (text_of it) → Says it taken taken_after faults faults_after status
-  front : status ≡ WriteFault → has_text it ≡ true → Rose faults faults_after → (n : ℕ) → Appends taken taken_after (take n (text_of it)) → Says it taken taken_after faults faults_after status
+  whole : status ≡ status_of it → has_text it ≡ true → Appends taken taken_after (text_of it) →
+      Says it taken taken_after faults faults_after status
+  front : status ≡ WriteFault → has_text it ≡ true → Rose faults faults_after → (n : ℕ) → Appends taken taken_after (take n (text_of it)) →
+      Says it taken taken_after faults faults_after status
   no_text : status ≡ status_of it → has_text it ≡ false → taken_after ≡ taken → Says it taken taken_after faults faults_after status
   no_memory : status ≡ Memory → it ≢ said.Usage → taken_after ≡ taken → Says it taken taken_after faults faults_after status
 

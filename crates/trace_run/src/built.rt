@@ -7,15 +7,25 @@ ghost use Rattle.trace_run.specs.Runs as runs;
 use gl_calls::{BindTarget, Call, ObjectKind};
 use trace_text::{Line, ThreadPlan};
 
-/// The line at which a trace is refused that is not served: 0 where it has more than one thread, and else the first line whose
-/// call is not built.
+/// The line at which a trace is refused that is not served: the first one, of all threads, whose call is not built.
 pub(crate) fn first_unbuilt(threads: &[ThreadPlan]) -> Option<u32>
     ensures { result ≡ runs.first_unbuilt (map plan threads.now) }
 {
-    match threads {
-        [] => None,
-        [thread] => unbuilt_line(&thread.lines),
-        [_, _, ..] => Some(0),
+    let mut first = None;
+    for thread in threads {
+        first = first_of(first, unbuilt_line(&thread.lines));
+    }
+    first
+}
+
+// The smaller one of two lines, where there are two.
+fn first_of(line: Option<u32>, other: Option<u32>) -> Option<u32>
+    ensures { result ≡ runs.first_of line other }
+{
+    match (line, other) {
+        (Some(line), Some(other)) => Some(line.min(other)),
+        (Some(line), None) => Some(line),
+        (None, other) => other,
     }
 }
 

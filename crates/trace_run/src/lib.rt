@@ -1,10 +1,9 @@
 //! A trace from its text to the text of its replies, over any source, sink and device.
 //!
-//! [`run_once`] serves the command `once`: it reads a text, parses it by `trace_text`, answers its calls in order by the
-//! front of their share group (`front_core`) over a back that it reaches directly (`back_core`), and writes the replies
-//! by `reply_text`. So far a trace may have one thread, which makes calls on contexts and buffers: `first_unbuilt` of
-//! `specs/Runs.antt` has the line at which any other trace is refused. `specs/Once.antt` says what a run does with its
-//! source, its sink and its device.
+//! [`run_once`] serves the command `once`: it reads a text, parses it by `trace_text`, leads a world of its threads (`world_core`) through
+//! the schedule of the trace and the seed (`schedule`), and writes the replies by `reply_text`, with a summary by `run_summary` where one
+//! is asked for. So far calls on contexts and buffers are built: `first_unbuilt` of `specs/Runs.antt` has the line at which any other
+//! trace is refused. `specs/Once.antt` says what a run does with its source, its sink and its device.
 #![tactic(auto)]
 
 mod built;

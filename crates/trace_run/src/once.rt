@@ -10,8 +10,9 @@ ghost use Rattle.command_line.specs.declared.command.Command.{Command};
 ghost use Rattle.command_line.specs.Commands as commands;
 ghost use Rattle.trace_text.specs.Reading.{Plan, plan};
 ghost use Rattle.trace_text.specs.Traces.{Spells};
+ghost use Rattle.trace_text.specs.Orders.{IsTrace};
 ghost use Rattle.trace_run.specs.Runs.{IsSound, first_unbuilt};
-ghost use Rattle.trace_run.specs.Once.{SpellsOnce, Gives, Answered, WasLost, WasCutOff, MayAnswer, MayRefuse, MayRefuseLong, Refused, IsRefusedAt, IsSaid, IsUnread, usage_line};
+ghost use Rattle.trace_run.specs.Once.{SpellsOnce, Names, Gives, Answered, WasLost, WasCutOff, MayAnswer, MayRefuse, MayRefuseLong, Refused, IsRefusedAt, IsSaid, IsUnread, usage_line};
 
 use crate::built;
 use crate::run::run;
@@ -19,19 +20,20 @@ use crate::saying::{Said, say};
 use command_line::{Command, command_of};
 use std::alloc::Global;
 use trace_io::{ReadStop, Sink, Source, Status, read_all};
-use trace_text::{ParseStop, Trace, parse};
+use trace_text::{ParseStop, Trace, parse, traces_are_in_order};
 use vk_device::{Device, devices_stay_in_order};
 
 /// The most bytes of a text.
 const LIMIT: usize = 67_108_864;
 
-// The kinds of refusal beside the faults of a line: too many bytes came, and the trace is none that is served.
+// The kinds of refusal beside the faults of a line: too many bytes came, and a call is not built.
 const TOO_LONG: u8 = 8;
 
 const UNBUILT: u8 = 10;
 
-/// Serves the command `once --seed N`: reads a trace from the source, runs it on the device, writes the replies into
-/// the sink, and hands the device back. At status 6 the replies so far are written, at status 4 and 7 nothing.
+/// Serves the command `once --seed N`, with a summary or without: reads a trace from the source, runs it on the device in the order of
+/// the schedule of N, writes the replies into the sink, and hands the device back. At status 6 the replies so far are written, at status 4
+/// and 7 nothing.
 pub fn run_once<S: Source, K: Sink, D: Device>(
     alloc: Global,
     words: &[String],
@@ -40,20 +42,30 @@ pub fn run_once<S: Source, K: Sink, D: Device>(
     device: D,
 ) -> (Status, D)
     requires { D.journal device ≡ [] }
-    ensures ok { result.0 ≡ Status.Ok → Answered (S.left source.old) (S.left source.new) (K.taken sink.old) (K.taken sink.new) (D.journal result.1) }
+    ensures ok { result.0 ≡ Status.Ok →
+        Answered (map string_bytes words.now) (S.left source.old) (S.left source.new) (K.taken sink.old) (K.taken sink.new)
+        (D.journal result.1) }
     ensures usage { result.0 ≡ Status.Usage → ¬ SpellsOnce (map string_bytes words.now) }
     ensures usage_line { result.0 ≡ Status.Usage → Appends (K.taken sink.old) (K.taken sink.new) usage_line }
     ensures served { SpellsOnce (map string_bytes words.now) → result.0 ≢ Status.Usage }
     ensures unserved { ¬ SpellsOnce (map string_bytes words.now) → (result.0 ≡ Status.Usage) ⊎ (result.0 ≡ Status.WriteFault) }
     ensures untouched { ¬ SpellsOnce (map string_bytes words.now) → (source.new ≡ source.old) × (result.1 ≡ device) }
-    ensures trace { (line kind : ℕ) → result.0 ≡ Status.Trace line kind → Refused (S.left source.old) (S.left source.new) (K.taken sink.old) (K.taken sink.new) line kind }
-    ensures refused { (text : List ℕ) (line kind : ℕ) → S.left source.old ≡ Some text → length text ≤ 67108864 → SpellsOnce (map string_bytes words.now) → IsRefusedAt text line kind → MayRefuse line kind result.0 }
-    ensures too_long { (text : List ℕ) → S.left source.old ≡ Some text → 67108864 < length text → SpellsOnce (map string_bytes words.now) → MayRefuseLong result.0 }
-    ensures answered { (text : List ℕ) (threads : List Plan) → S.left source.old ≡ Some text → SpellsOnce (map string_bytes words.now) → Spells text threads → first_unbuilt threads ≡ None → MayAnswer result.0 }
+    ensures trace { (line kind : ℕ) → result.0 ≡ Status.Trace line kind →
+        Refused (S.left source.old) (S.left source.new) (K.taken sink.old) (K.taken sink.new) line kind }
+    ensures refused { (text : List ℕ) (line kind : ℕ) → S.left source.old ≡ Some text → length text ≤ 67108864 →
+        SpellsOnce (map string_bytes words.now) → IsRefusedAt text line kind → MayRefuse line kind result.0 }
+    ensures too_long { (text : List ℕ) → S.left source.old ≡ Some text → 67108864 < length text → SpellsOnce (map string_bytes words.now) →
+        MayRefuseLong result.0 }
+    ensures answered { (text : List ℕ) (threads : List Plan) → S.left source.old ≡ Some text → SpellsOnce (map string_bytes words.now) →
+        Spells text threads → first_unbuilt threads ≡ None → MayAnswer result.0 }
     ensures read_fault { result.0 ≡ Status.ReadFault → Rose (S.faults source.old) (S.faults source.new) }
     ensures write_fault { result.0 ≡ Status.WriteFault → Rose (K.faults sink.old) (K.faults sink.new) }
-    ensures cut_off { result.0 ≡ Status.WriteFault → WasCutOff (map string_bytes words.now) (S.left source.old) (S.left source.new) (K.taken sink.old) (K.taken sink.new) (D.faults device) (D.faults result.1) (D.journal result.1) }
-    ensures lost { result.0 ≡ Status.DeviceLost → WasLost (S.left source.old) (S.left source.new) (K.taken sink.old) (K.taken sink.new) (D.faults device) (D.faults result.1) }
+    ensures cut_off { result.0 ≡ Status.WriteFault →
+        WasCutOff (map string_bytes words.now) (S.left source.old) (S.left source.new) (K.taken sink.old) (K.taken sink.new)
+        (D.faults device) (D.faults result.1) (D.journal result.1) }
+    ensures lost { result.0 ≡ Status.DeviceLost →
+        WasLost (map string_bytes words.now) (S.left source.old) (S.left source.new) (K.taken sink.old) (K.taken sink.new)
+        (D.faults device) (D.faults result.1) }
     ensures silent { (result.0 ≡ Status.ReadFault) ⊎ (result.0 ≡ Status.Memory) → K.taken sink.new ≡ K.taken sink.old }
     ensures clean { IsClean (D.journal result.1) }
 {
@@ -69,16 +81,17 @@ fn outcome<S: Source, D: Device>(
     device: D,
 ) -> (Said, D)
     requires { D.journal device ≡ [] }
-    ensures said { IsSaid (map string_bytes words.now) (S.left source.old) (S.left source.new) (S.faults source.old) (S.faults source.new) (D.faults device) (D.faults result.1) (D.journal result.1) result.0 }
+    ensures said { IsSaid (map string_bytes words.now) (S.left source.old) (S.left source.new) (S.faults source.old) (S.faults source.new)
+        (D.faults device) (D.faults result.1) (D.journal result.1) result.0 }
     ensures unserved { ¬ SpellsOnce (map string_bytes words.now) → result.0 ≡ Said.Usage }
     ensures untouched { ¬ SpellsOnce (map string_bytes words.now) → (source.new ≡ source.old) × (result.1 ≡ device) }
     ensures clean { IsClean (D.journal result.1) }
 {
     devices_stay_in_order::<D>();
-    match seed_in(words) {
+    match order_in(words) {
         None => (Said::Usage, device),
-        Some(_) => match trace_in(alloc, source) {
-            Ok(trace) => run(alloc, device, &trace.threads),
+        Some((seed, summary)) => match trace_in(alloc, source) {
+            Ok(trace) => run(alloc, device, trace, seed, summary),
             Err(said) => (said, device),
         },
     }
@@ -88,8 +101,11 @@ fn outcome<S: Source, D: Device>(
 fn trace_in<S: Source>(alloc: Global, source: &mut S) -> Result<Trace, Said>
     ensures gives { IfOk result (λ trace. Gives (S.left source.old) (S.left source.new) (map plan trace.threads.items)) }
     ensures sound { IfOk result (λ trace. All IsSound (map plan trace.threads.items)) }
-    ensures unread { IfErr result (λ said. IsUnread (S.left source.old) (S.left source.new) (S.faults source.old) (S.faults source.new) said) }
+    ensures ordered { IfOk result (λ trace. IsTrace (map plan trace.threads.items)) }
+    ensures unread { IfErr result
+        (λ said. IsUnread (S.left source.old) (S.left source.new) (S.faults source.old) (S.faults source.new) said) }
 {
+    traces_are_in_order();
     let text = match read_all(alloc, source, LIMIT) {
         Ok(text) => text,
         Err(ReadStop::TooLong) => {
@@ -115,12 +131,12 @@ fn trace_in<S: Source>(alloc: Global, source: &mut S) -> Result<Trace, Said>
     }
 }
 
-// The seed of the command, where the words are those of one that is served.
-fn seed_in(words: &[String]) -> Option<u64>
-    ensures { MatchOption result (¬ SpellsOnce (map string_bytes words.now)) (λ seed. commands.Spells (map string_bytes words.now) (Command.Once seed false)) }
+// The seed of the command, and whether a summary is asked for, where the words are those of one that is served.
+fn order_in(words: &[String]) -> Option<(u64, bool)>
+    ensures { MatchOption result (¬ SpellsOnce (map string_bytes words.now)) (λ order. Names (map string_bytes words.now) order.0 order.1) }
 {
     match command_of(words) {
-        Some(Command::Once { seed, summary }) => { if summary { None } else { Some(seed) } }
+        Some(Command::Once { seed, summary }) => Some((seed, summary)),
         Some(Command::Threads { .. }) => None,
         Some(Command::Gen { .. }) => None,
         None => None,

@@ -7,13 +7,22 @@ use std::alloc::{AllocError, Global};
 use trace_io::{Sink, Status, USAGE_LINE, write_all};
 
 /// What a run has to say: the words are of no command that is served, the text is refused, the replies to all lines, those
-/// until the device was lost, or nothing since the source failed or memory ran out.
+/// until the device was lost, or nothing since the source failed or memory ran out. The tail of the replies to
+/// all lines has the summary, where one was asked for.
 #[derive(Debug, Drop)]
 pub(crate) enum Said {
     Usage,
-    Refused { line: u32, kind: u8 },
-    Replies { groups: Vec<GroupHistory> },
-    Lost { groups: Vec<GroupHistory> },
+    Refused {
+        line: u32,
+        kind: u8,
+    },
+    Replies {
+        groups: Vec<GroupHistory>,
+        tail: Tail,
+    },
+    Lost {
+        groups: Vec<GroupHistory>,
+    },
     ReadFault,
     Memory,
 }
@@ -35,7 +44,7 @@ pub(crate) fn say<K: Sink>(alloc: Global, sink: &mut K, said: &Said) -> Status
             ),
             Err(_) => Status::Memory,
         },
-        Said::Replies { groups } => match render(alloc, groups, Tail::End) {
+        Said::Replies { groups, tail } => match render(alloc, groups, *tail) {
             Ok(text) => put(sink, &text, Status::Ok),
             Err(_) => Status::Memory,
         },

@@ -1,9 +1,23 @@
-use Rattle.std.proofs.Common.{rules, arith}
-use Rattle.trace_run.proofs.Served.{first_sound, nothing_ran}
+use Rattle.std.proofs.Common.{map, ap}
+use Rattle.trace_text.specs.Reading.{plan}
+use Rattle.world_core.specs.World.{WorldModel}
+use Rattle.trace_run.proofs.Served.{are_served}
+use Rattle.trace_run.proofs.Leading.{opened, ran_all, tail_same}
 use Rattle.trace_run.proofs.run.run.Goals as goal
 
-pub run_thread-requires-clause-sound : goal.run_thread-requires-clause-sound
-run_thread-requires-clause-sound g c = first_sound c.args.threads.now c.thread-item.result (omega arith) c.thread-item.is c.requires.sound
+pub new-requires-clause-served : goal.new-requires-clause-served
+new-requires-clause-served g c =
+    are_served (map plan c.args.trace.threads.items) c.requires.ordered c.requires.built c.requires.sound
 
-pub returns-in-empty-clause-said : goal.returns-in-empty-clause-said
-returns-in-empty-clause-said g c = nothing_ran c.args.threads.now _ _ (omega arith) (search rules) c.requires.empty
+pub play_and_close-answer-requires-clause-fresh : goal.play_and_close-answer-requires-clause-fresh
+play_and_close-answer-requires-clause-fresh g c =
+    opened _ c.in-Ok.world (map plan c.args.trace.threads.items) c.args.device c.in-Ok.ensures.ok
+
+pub returns-in-Ok-tail-clause-said : goal.returns-in-Ok-tail-clause-said
+returns-in-Ok-tail-clause-said g c = (
+  ran_all _ (map plan c.args.trace.threads.items) c.in-Ok.world.threads c.args.seed c.play_and_close-answer.new.world
+      c.finish-groups.result.0.items (ap (λ (w : WorldModel _). w.threads) c.in-Ok.ensures.ok) c.is_lawful.ensures.played c.finish-groups.ensures.histories
+      (g.D.Device.journal c.finish-groups.result.1) c.in-Ok-answer.ensures.whole c.finish-groups.ensures.finished,
+  tail_same c.args.summary c.finish-groups.result.0.items c.deref.result.now (g.D.Device.journal c.finish-groups.result.1)
+      c.journal.result.now c.in-Ok-tail.tail c.in-Ok-tail.ensures c.deref.ensures.value c.journal.ensures,
+)
