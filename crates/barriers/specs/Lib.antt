@@ -1,0 +1,3 @@
+pub mod Licence
+pub mod Trackers
+pub mod Logs
