@@ -1,5 +1,6 @@
 -- What the steps of the back leave to the groups.
-use Rattle.std.proofs.Common.{◌≡◌, ◌≢◌, ℕ, suc, ◌+◌, ◌≤◌, ◌==◌, Bool, true, false, cond, List, [], ◌∷◌, ◌++◌, Some, refl, sym, ap, ◌∙◌, subst, arith}
+use Rattle.std.proofs.Common.{◌≡◌, ◌≢◌, ℕ, suc, ◌+◌, ◌≤◌, ◌==◌, Bool, true, false, cond, List, [], ◌∷◌, ◌++◌, Some, refl, sym, ap, ◌∙◌}
+use Rattle.std.proofs.Common.{subst, arith}
 use Rattle.std.specs.List.{All}
 use Rattle.std.proofs.lemmas.List.{append-nil}
 use Rattle.std.proofs.lemmas.List.Elements.{All-nil, All-push, All-weaker}
@@ -82,9 +83,11 @@ leaves_cleaned laws h k read count is = subst (LeavesGroups h) (sym is) (by (cou
     by false = leaves_clean laws h read count
 
 -- a cleanup that was stopped
-pub leaves_cut : Apart → Outside → (h k : List BackEvent) (read : List ℕ) (count : ℕ) (stop : Stop) → k ≡ stopped_by (h ++ event.Cleaned read count ∷ []) stop → LeavesGroups h k
+pub leaves_cut : Apart → Outside → (h k : List BackEvent) (read : List ℕ) (count : ℕ) (stop : Stop) →
+    k ≡ stopped_by (h ++ event.Cleaned read count ∷ []) stop → LeavesGroups h k
 leaves_cut apart laws h k read count stop is =
-    leaves_then h (h ++ event.Cleaned read count ∷ []) k (leaves_clean laws h read count) (leaves_stop apart (h ++ event.Cleaned read count ∷ []) k stop is)
+    leaves_then h (h ++ event.Cleaned read count ∷ []) k (leaves_clean laws h read count)
+    (leaves_stop apart (h ++ event.Cleaned read count ∷ []) k stop is)
 
 -- The batches went on
 
@@ -127,4 +130,5 @@ well_cleaned going write h k read count is whole = record {
 
 -- the batches went on until a stop came
 pub leaves_halted : Apart → (h k : List BackEvent) (stop : Stop) → HasStopped h k stop → LeavesGroups h k
-leaves_halted laws h k stop halted = leaves_then h halted.before k (leaves_batches laws h halted.before halted.gone_on) (leaves_stop laws halted.before k stop halted.is)
+leaves_halted laws h k stop halted = leaves_then h halted.before k (leaves_batches laws h halted.before halted.gone_on)
+    (leaves_stop laws halted.before k stop halted.is)

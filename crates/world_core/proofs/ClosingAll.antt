@@ -1,5 +1,6 @@
 -- How all fronts are closed, one after the other, and what that leaves.
-use Rattle.std.proofs.Common.{◌≡◌, ◌≢◌, ℕ, suc, zero, ◌+◌, ◌≤◌, ◌<◌, Bool, true, false, List, [], ◌∷◌, ◌++◌, length, Some, refl, sym, ap, ◌∙◌, subst, arith, eq-eqb, inl, inr}
+use Rattle.std.proofs.Common.{◌≡◌, ◌≢◌, ℕ, suc, zero, ◌+◌, ◌≤◌, ◌<◌, Bool, true, false, List, [], ◌∷◌, ◌++◌, length, Some, refl, sym, ap}
+use Rattle.std.proofs.Common.{◌∙◌, subst, arith, eq-eqb, inl, inr}
 use Rattle.std.specs.Prelude.{◌⊎◌, IsSome, Option, slice_get}
 use Rattle.std.proofs.Math.Dec.{eqb}
 use Rattle.std.proofs.lemmas.Bool.{eqb-true, false≢true, cases_lt}
@@ -49,7 +50,8 @@ closing_begins fronts h eight goes = record {
 }
 
 -- what was left stays so where the group only learns
-nothing_with : (s : Link) (d : ℕ → ℕ) (n : Option (ℕ → ℕ)) (a : Option Asked) → LeavesNothing s → LeavesNothing (record s { done = d; now = n; asked = a })
+nothing_with : (s : Link) (d : ℕ → ℕ) (n : Option (ℕ → ℕ)) (a : Option Asked) → LeavesNothing s →
+    LeavesNothing (record s { done = d; now = n; asked = a })
 nothing_with s d n a left = record { none_lost = left.none_lost; given = left.given }
 
 nothing_learned : (s t : Link) → LeavesNothing s → Learns s t → LeavesNothing t
@@ -77,20 +79,25 @@ pub record ClosingLaws : Type 0 where
   pub whole : (h k : List BackEvent) (g : ℕ) → GoesOn g (Some h) (Some k) → CleansWhole h → CleansWhole k
   pub group : (h : List BackEvent) (g : ℕ) → (link_of h g).group ≡ g
 
-module _ (laws : ClosingLaws) (before fronts new : List FrontModel) (h i k : List BackEvent) (count : ℕ) (was : Closing before fronts h i count) where
+module _ (laws : ClosingLaws) (before fronts new : List FrontModel) (h i k : List BackEvent) (count : ℕ)
+    (was : Closing before fronts h i count) where
   pub closing_more : count < 8 → HasClosedOne fronts new i k count → Closing before new h k (count + 1)
   closing_more low did = record {
     eight = ap length did.fronts.has ∙ length-set fronts count did.fronts.after ∙ was.eight;
     stand = each_front fronts new i k count did.fronts (λ group f. count + 1 ≤ group → FrontStands f (link_of k group))
         (λ high. absurd (omega (arith, high)))
-        (λ other f ne at high. laws.stays f (link_of i other) (link_of k other) (was.stand other f at (omega (arith, high))) (learned_beside laws.apart i k count other goes ne));
+        (λ other f ne at high. laws.stays f (link_of i other) (link_of k other) (was.stand other f at (omega (arith, high)))
+        (learned_beside laws.apart i k count other goes ne));
     going = did.at_back.going refl was.going;
     whole = laws.whole i k count goes was.whole;
     nothing = left;
-    no_others = λ group high. laws.apart.own i k count group goes (λ same. absurd (omega (arith, same, low, high))) ∙ was.no_others group high;
+    no_others = λ group high. laws.apart.own i k count group goes (λ same. absurd (omega (arith, same, low, high)))
+        ∙ was.no_others group high;
     written = written;
-    are = λ threads are. fronts_replaced fronts new i k count did.fronts laws.apart threads goes did.closed.threads did.closed.owns (was.are threads are);
-    histories = ap histories_of did.fronts.has ∙ same_histories fronts count did.fronts.before did.fronts.after did.fronts.had did.closed.history ∙ was.histories;
+    are = λ threads are. fronts_replaced fronts new i k count did.fronts laws.apart threads goes did.closed.threads did.closed.owns
+        (was.are threads are);
+    histories = ap histories_of did.fronts.has
+        ∙ same_histories fronts count did.fronts.before did.fronts.after did.fronts.had did.closed.history ∙ was.histories;
   }
     where
       goes : GoesOn count (Some i) (Some k)
@@ -112,18 +119,23 @@ module _ (laws : ClosingLaws) (before fronts new : List FrontModel) (h i k : Lis
               (record { none_lost = did.closed.has_closed.none_lost; given = did.closed.has_closed.given })
           by false same =
               let ne : group ≢ count = λ is_same. false≢true (sym same ∙ eq-eqb group count is_same) in
-              nothing_learned (link_of i group) (link_of k group) (was.nothing group (omega (arith, in_range, ne))) (learned_beside laws.apart i k count group goes ne)
+              nothing_learned (link_of i group) (link_of k group) (was.nothing group (omega (arith, in_range, ne)))
+              (learned_beside laws.apart i k count group goes ne)
 
   pub broken_are : (threads : List Plan) → HasBroken fronts new i k count → AreFronts threads h before → AreFronts threads k new
   broken_are threads broken are =
-      fronts_replaced fronts new i k count broken.fronts laws.apart threads broken.at_back broken.stopped.threads broken.stopped.owns (was.are threads are)
+      fronts_replaced fronts new i k count broken.fronts laws.apart threads broken.at_back broken.stopped.threads broken.stopped.owns
+      (was.are threads are)
 
   pub broken_stays : HasBroken fronts new i k count → histories_of new ≡ histories_of before
   broken_stays broken =
-      ap histories_of broken.fronts.has ∙ same_histories fronts count broken.fronts.before broken.fronts.after broken.fronts.had broken.stopped.history ∙ was.histories
+      ap histories_of broken.fronts.has
+      ∙ same_histories fronts count broken.fronts.before broken.fronts.after broken.fronts.had broken.stopped.history ∙ was.histories
 
-pub closing_ends : (before fronts : List FrontModel) (h k : List BackEvent) (count : ℕ) → 8 ≤ count → Closing before fronts h k count → AreClosed k
-closing_ends before fronts h k count all closing = record { going = closing.going; whole = closing.whole; nothing = λ group. by group (cases_lt group 8) }
+pub closing_ends : (before fronts : List FrontModel) (h k : List BackEvent) (count : ℕ) → 8 ≤ count → Closing before fronts h k count →
+    AreClosed k
+closing_ends before fronts h k count all closing =
+    record { going = closing.going; whole = closing.whole; nothing = λ group. by group (cases_lt group 8) }
   where
     by : (group : ℕ) → (group < 8) ⊎ (8 ≤ group) → LeavesNothing (link_of k group)
     by group (inl low) = closing.nothing group (omega (arith, low, all))
@@ -131,7 +143,8 @@ closing_ends before fronts h k count all closing = record { going = closing.goin
 
 -- In an idle back the uses of what was given are completed
 
-reached_all : (h : List BackEvent) (g : ℕ) → LeavesNothing (link_of h g) → IsIdle h → (id : ℕ) (uses : List QueueSerial) → (link_of h g).given id ≡ Some uses → (index : ℕ) → number_of uses index ≤ completed h index
+reached_all : (h : List BackEvent) (g : ℕ) → LeavesNothing (link_of h g) → IsIdle h → (id : ℕ) (uses : List QueueSerial) →
+    (link_of h g).given id ≡ Some uses → (index : ℕ) → number_of uses index ≤ completed h index
 reached_all h g nothing idle id uses is index = by_case (cases_lt (number_of uses index) 1)
   where
     last : number_of uses index ≤ last_number (batches_of (link_of h g).mine) index

@@ -1,5 +1,6 @@
 -- The fronts where the back went on, and where one front changed.
-use Rattle.std.proofs.Common.{◌≡◌, ◌≢◌, ℕ, ◌+◌, ◌≤◌, ◌<◌, Bool, true, false, List, [], ◌∷◌, ◌++◌, length, Some, None, refl, sym, ap, ◌∙◌, subst, arith, eq-eqb}
+use Rattle.std.proofs.Common.{◌≡◌, ◌≢◌, ℕ, ◌+◌, ◌≤◌, ◌<◌, Bool, true, false, List, [], ◌∷◌, ◌++◌, length, Some, None, refl, sym, ap, ◌∙◌}
+use Rattle.std.proofs.Common.{subst, arith, eq-eqb}
 use Rattle.std.specs.Prelude.{Option, Result, Ok, Err, OnOk, IfSome, is_ok, slice_get}
 use Rattle.std.proofs.lemmas.Bool.{eqb-true, false≢true}
 use Rattle.std.proofs.lemmas.List.{length-set}
@@ -25,7 +26,8 @@ use Rattle.world_core.proofs.Lists.{get_set, get_set_other, same_at}
 -- What a group learns
 
 -- a group whose own part stayed has at most learned
-pub learned : (h k : List BackEvent) (g : ℕ) → own_part k g ≡ own_part h g → ((index : ℕ) → completed h index ≤ completed k index) → Learns (link_of h g) (link_of k g)
+pub learned : (h k : List BackEvent) (g : ℕ) → own_part k g ≡ own_part h g → ((index : ℕ) → completed h index ≤ completed k index) →
+    Learns (link_of h g) (link_of k g)
 learned h k g same rises = record {
   rest = ap (λ (l : Link). record l { done = completed k; now = Some (completed k); asked = None }) same;
   rises = rises;
@@ -37,17 +39,21 @@ pub learned_of : (h k : List BackEvent) (g : ℕ) → LeavesGroups h k → Learn
 learned_of h k g leaves = learned h k g (leaves.own g) leaves.rises
 
 -- whose a handle is rests on what is held alone
-owned_still : (objects : Object → Option Stored) (s : Link) (d : ℕ → ℕ) (n : Option (ℕ → ℕ)) (a : Option Asked) → Owns objects s → Owns objects (record s { done = d; now = n; asked = a })
+owned_still : (objects : Object → Option Stored) (s : Link) (d : ℕ → ℕ) (n : Option (ℕ → ℕ)) (a : Option Asked) → Owns objects s →
+    Owns objects (record s { done = d; now = n; asked = a })
 owned_still objects s d n a owns = record {
   owner = owns.owner;
-  each = λ o b at. let u : StoredOwned s owns.owner o b = owns.each o b at in record { held = u.held; owned = u.owned; waiting = u.waiting };
+  each = λ o b at. let u : StoredOwned s owns.owner o b = owns.each o b at in
+      record { held = u.held; owned = u.owned; waiting = u.waiting };
 }
 
 pub owns_still : (objects : Object → Option Stored) (s t : Link) → Owns objects s → Learns s t → Owns objects t
 owns_still objects s t owns learns = subst (Owns objects) (sym learns.rest) (owned_still objects s t.done t.now t.asked owns)
 
-staging_of : (f : Face) (s : Link) (owner : ℕ → Owner) (o : Object) (handle place id : ℕ) (w : Waiting) → w.staging ≡ Some id → WaitingStands f s owner o handle place w → StagingStands f s owner o place id
-staging_of f s owner o handle place id w is stands = subst (λ (staging : Option ℕ). IfSome staging (StagingStands f s owner o place)) is stands.staging
+staging_of : (f : Face) (s : Link) (owner : ℕ → Owner) (o : Object) (handle place id : ℕ) (w : Waiting) → w.staging ≡ Some id →
+    WaitingStands f s owner o handle place w → StagingStands f s owner o place id
+staging_of f s owner o handle place id w is stands = subst
+    (λ (staging : Option ℕ). IfSome staging (StagingStands f s owner o place)) is stands.staging
 
 holds_own : (f : Face) (s : Link) → Holds f no_hands s → Owns f.objects s
 holds_own f s h = record {
@@ -55,7 +61,8 @@ holds_own f s h = record {
   each = λ o b at. record {
     held = (h.objects o b at).slot.held;
     owned = (h.objects o b at).owned;
-    waiting = λ place id w waits is. let v = staging_of f s h.owner o b.handle place id w is ((h.objects o b at).waiting place w waits) in (v.held, v.owned);
+    waiting = λ place id w waits is. let v = staging_of f s h.owner o b.handle place id w is
+        ((h.objects o b at).waiting place w waits) in (v.held, v.owned);
   };
 }
 
@@ -65,7 +72,8 @@ stands_own f s stands = holds_own (face f.core) s stands.stands.holds
 
 -- The back went on
 
-pub fronts_left : (threads : List Plan) (h k : List BackEvent) (fronts : List FrontModel) → LeavesGroups h k → AreFronts threads h fronts → AreFronts threads k fronts
+pub fronts_left : (threads : List Plan) (h k : List BackEvent) (fronts : List FrontModel) → LeavesGroups h k →
+    AreFronts threads h fronts → AreFronts threads k fronts
 fronts_left threads h k fronts leaves are = record {
   eight = are.eight;
   each = λ g f at. let u : IsFrontOf threads h g f = are.each g f at in record {
@@ -74,7 +82,8 @@ fronts_left threads h k fronts leaves are = record {
   };
 }
 
-pub goes_left : GoOnStanding → (h k : List BackEvent) (fronts : List FrontModel) → LeavesGroups h k → StaysWell h k → Goes fronts h → Goes fronts k
+pub goes_left : GoOnStanding → (h k : List BackEvent) (fronts : List FrontModel) → LeavesGroups h k → StaysWell h k → Goes fronts h →
+    Goes fronts k
 goes_left law h k fronts leaves well goes = record {
   stand = λ g f at. law f (link_of h g) (link_of k g) (goes.stand g f at) (learned_of h k g leaves);
   going = well.going goes.going;
@@ -92,7 +101,8 @@ module _ (threads : List Plan) (done : List ℕ) (answered : List Bool) (fronts 
     runs = λ on. absurd (false≢true on);
   }
 
-  pub keeps_well : GoOnStanding → LeavesGroups h k → StaysWell h k → Keeps threads done answered fronts h true → Keeps threads done answered fronts k true
+  pub keeps_well : GoOnStanding → LeavesGroups h k → StaysWell h k → Keeps threads done answered fronts h true →
+      Keeps threads done answered fronts k true
   keeps_well law leaves well keeps =
       let runs : Runs threads (played_of done fronts) fronts h = keeps.runs refl in
       record {
@@ -107,7 +117,8 @@ module _ (threads : List Plan) (done : List ℕ) (answered : List Bool) (fronts 
       }
 
   -- a step of the back that was answered so
-  pub keeps_step : {A E : Type 0} (r : Result A E) → GoOnStanding → LeavesGroups h k → OnOk r (StaysWell h k) → Keeps threads done answered fronts h true →
+  pub keeps_step : {A E : Type 0} (r : Result A E) → GoOnStanding → LeavesGroups h k → OnOk r (StaysWell h k) →
+      Keeps threads done answered fronts h true →
       Keeps threads done answered fronts k (is_ok r)
   keeps_step (Ok a) law leaves well keeps = keeps_well law leaves well keeps
   keeps_step (Err e) law leaves well keeps = keeps_stopped leaves keeps
@@ -115,7 +126,8 @@ module _ (threads : List Plan) (done : List ℕ) (answered : List Bool) (fronts 
 -- One front changed
 
 -- what the group of another front learned from the calls of one group
-pub learned_beside : Apart → (h k : List BackEvent) (g other : ℕ) → GoesOn g (Some h) (Some k) → other ≢ g → Learns (link_of h other) (link_of k other)
+pub learned_beside : Apart → (h k : List BackEvent) (g other : ℕ) → GoesOn g (Some h) (Some k) → other ≢ g →
+    Learns (link_of h other) (link_of k other)
 learned_beside laws h k g other goes ne = learned h k other (laws.own h k g other goes (λ e. ne (sym e))) (laws.completed_rises h k g goes)
 
 module _ (fronts new : List FrontModel) (h k : List BackEvent) (g : ℕ) (is : Replaces fronts new g) where
@@ -126,7 +138,8 @@ module _ (fronts new : List FrontModel) (h k : List BackEvent) (g : ℕ) (is : R
   at_other other f ne at = sym (ap (λ (l : List FrontModel). slice_get l other) is.has ∙ get_set_other fronts g other is.after ne) ∙ at
 
   -- what holds of the new front and of each other one holds of all
-  pub each_front : (P : ℕ → FrontModel → Type 0) → P g is.after → ((other : ℕ) (f : FrontModel) → other ≢ g → slice_get fronts other ≡ Some f → P other f) →
+  pub each_front : (P : ℕ → FrontModel → Type 0) → P g is.after →
+      ((other : ℕ) (f : FrontModel) → other ≢ g → slice_get fronts other ≡ Some f → P other f) →
       (group : ℕ) (f : FrontModel) → slice_get new group ≡ Some f → P group f
   each_front P here others group f at = by (eqb group g) refl
     where
@@ -135,12 +148,14 @@ module _ (fronts new : List FrontModel) (h k : List BackEvent) (g : ℕ) (is : R
           let same : group ≡ g = eqb-true group g e in
           let front : is.after ≡ f = same_at new g is.after f at_group (subst (λ (n : ℕ). slice_get new n ≡ Some f) same at) in
           subst (λ (n : ℕ). P n f) (sym same) (subst (P g) front here)
-      by false e = others group f (λ same. absurd (false≢true (sym e ∙ ap (λ (n : ℕ). eqb n g) same ∙ T-eqb))) (at_other group f (λ same. absurd (false≢true (sym e ∙ ap (λ (n : ℕ). eqb n g) same ∙ T-eqb))) at)
+      by false e = others group f (λ same. absurd (false≢true (sym e ∙ ap (λ (n : ℕ). eqb n g) same ∙ T-eqb)))
+          (at_other group f (λ same. absurd (false≢true (sym e ∙ ap (λ (n : ℕ). eqb n g) same ∙ T-eqb))) at)
         where
           T-eqb : eqb g g ≡ true
           T-eqb = eq-eqb g g refl
 
-  pub fronts_replaced : Apart → (threads : List Plan) → GoesOn g (Some h) (Some k) → is.after.threads ≡ is.before.threads → Owns (face is.after.core).objects (link_of k g) →
+  pub fronts_replaced : Apart → (threads : List Plan) → GoesOn g (Some h) (Some k) → is.after.threads ≡ is.before.threads →
+      Owns (face is.after.core).objects (link_of k g) →
       AreFronts threads h fronts → AreFronts threads k new
   fronts_replaced laws threads goes same owns are = record {
     eight = ap length is.has ∙ length-set fronts g is.after ∙ are.eight;
@@ -152,7 +167,8 @@ module _ (fronts new : List FrontModel) (h k : List BackEvent) (g : ℕ) (is : R
         });
   }
 
-  pub goes_replaced : Apart → GoOnStanding → GoesOn g (Some h) (Some k) → g < 8 → FrontStands is.after (link_of k g) → IsGoing (Some k) → CleansWhole k → Goes fronts h → Goes new k
+  pub goes_replaced : Apart → GoOnStanding → GoesOn g (Some h) (Some k) → g < 8 → FrontStands is.after (link_of k g) → IsGoing (Some k) →
+      CleansWhole k → Goes fronts h → Goes new k
   goes_replaced laws law goes low stands going whole was = record {
     stand = each_front (λ group f. FrontStands f (link_of k group)) stands
         (λ other f ne at. law f (link_of h other) (link_of k other) (was.stand other f at) (learned_beside laws h k g other goes ne));

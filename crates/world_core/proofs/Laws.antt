@@ -14,7 +14,8 @@ use Rattle.front_core.specs.Front.{FrontModel, FrontStands}
 pub record Apart : Type 0 where
   pub own : (h k : List BackEvent) (a b : ℕ) → GoesOn a (Some h) (Some k) → a ≢ b → own_part k b ≡ own_part h b
   pub completed_rises : (h k : List BackEvent) (a : ℕ) → GoesOn a (Some h) (Some k) → (index : ℕ) → completed h index ≤ completed k index
-  pub wrote : (h k : List BackEvent) (a : ℕ) (gained : List Own) → GoesOn a (Some h) (Some k) → (link_of k a).mine ≡ (link_of h a).mine ++ gained →
+  pub wrote : (h k : List BackEvent) (a : ℕ) (gained : List Own) → GoesOn a (Some h) (Some k) →
+      (link_of k a).mine ≡ (link_of h a).mine ++ gained →
       host_bytes (journal_of k) ≡ host_bytes (journal_of h) + uploaded gained
 
 -- an event that is no group's own

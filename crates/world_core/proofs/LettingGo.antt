@@ -1,5 +1,6 @@
 -- How the fronts are let go, one after the other, and what that leaves.
-use Rattle.std.proofs.Common.{◌≡◌, ◌≢◌, ℕ, suc, zero, ◌+◌, ◌≤◌, ◌<◌, Bool, true, false, cond, List, [], ◌∷◌, ◌++◌, length, map, take, drop, Some, refl, sym, ap, ◌∙◌, subst, arith, add-one, length-append}
+use Rattle.std.proofs.Common.{◌≡◌, ◌≢◌, ℕ, suc, zero, ◌+◌, ◌≤◌, ◌<◌, Bool, true, false, cond, List, [], ◌∷◌, ◌++◌, length, map, take}
+use Rattle.std.proofs.Common.{drop, Some, refl, sym, ap, ◌∙◌, subst, arith, add-one, length-append}
 use Rattle.std.specs.Prelude.{slice_get}
 use Rattle.std.specs.List.{All, filter}
 use Rattle.std.proofs.Math.Seq.{drop-nil}
@@ -26,10 +27,12 @@ use Rattle.world_core.proofs.Lists.{number_at, history_is}
 use Rattle.world_core.proofs.Fronts.{owns_still}
 
 -- the fronts of the first groups, so many, were let go, and their histories are kept
-pub record Letting (threads : List Plan) (all left : List FrontModel) (h k : List BackEvent) (ended : List GroupHistory) (count : ℕ) : Type 0 where
+pub record Letting (threads : List Plan) (all left : List FrontModel) (h k : List BackEvent) (ended : List GroupHistory)
+    (count : ℕ) : Type 0 where
   pub rest : left ≡ drop count all
   pub some : length left + count ≡ 8
-  pub owns : (group : ℕ) (front : FrontModel) → slice_get all group ≡ Some front → count ≤ group → Owns (face front.core).objects (link_of k group)
+  pub owns : (group : ℕ) (front : FrontModel) → slice_get all group ≡ Some front → count ≤ group →
+      Owns (face front.core).objects (link_of k group)
   pub lets : LetsGo h k
   pub groups : map (λ history. history.group) ended ≡ filter (is_declared threads) (take count group_numbers)
   pub few : length ended ≤ count
@@ -39,9 +42,15 @@ pub lets_nothing : (h : List BackEvent) → LetsGo h h
 lets_nothing h = record { objects = λ id. refl; written = refl; going = λ on. on }
 
 lets_then : (h i k : List BackEvent) → LetsGo h i → LetsGo i k → LetsGo h k
-lets_then h i k a b = record { objects = λ id. b.objects id ∙ a.objects id; written = b.written ∙ a.written; going = λ on. b.going (a.going on) }
+lets_then h i k a b = record {
+  objects = λ id. b.objects id ∙ a.objects id;
+  written = b.written
+      ∙ a.written;
+  going = λ on. b.going (a.going on);
+}
 
-pub letting_begins : (threads : List Plan) (fronts : List FrontModel) (h : List BackEvent) (ended : List GroupHistory) → length fronts ≡ 8 → OwnTheirs fronts h → ended ≡ [] →
+pub letting_begins : (threads : List Plan) (fronts : List FrontModel) (h : List BackEvent) (ended : List GroupHistory) →
+    length fronts ≡ 8 → OwnTheirs fronts h → ended ≡ [] →
     Letting threads fronts fronts h h ended 0
 letting_begins threads fronts h ended eight owns empty = record {
   rest = refl;
@@ -76,12 +85,14 @@ numbers_more count low =
     ∙ ap (λ (n : ℕ). take count group_numbers ++ n ∷ []) (get_or_from_slice_get group_numbers count count count (number_at count low))
 
 -- the front whose turn it is holds what it has
-pub first_owns : (threads : List Plan) (all left : List FrontModel) (h i : List BackEvent) (ended : List GroupHistory) (count : ℕ) (front : FrontModel) →
+pub first_owns : (threads : List Plan) (all left : List FrontModel) (h i : List BackEvent) (ended : List GroupHistory) (count : ℕ)
+    (front : FrontModel) →
     Letting threads all left h i ended count → slice_get left 0 ≡ Some front → Owns (face front.core).objects (link_of i count)
 first_owns threads all left h i ended count front was first =
     was.owns count front (sym (get_drop all count) ∙ ap (λ (l : List FrontModel). slice_get l 0) (sym was.rest) ∙ first) (omega arith)
 
-module _ (threads : List Plan) (all left rest : List FrontModel) (h i k : List BackEvent) (ended now : List GroupHistory) (count : ℕ) (front : FrontModel) (history : GroupHistory)
+module _ (threads : List Plan) (all left rest : List FrontModel) (h i k : List BackEvent) (ended now : List GroupHistory) (count : ℕ)
+    (front : FrontModel) (history : GroupHistory)
     (was : Letting threads all left h i ended count) (low : count < 8) where
   at_count : slice_get left 0 ≡ Some front → slice_get all count ≡ Some front
   at_count first = sym (get_drop all count) ∙ ap (λ (l : List FrontModel). slice_get l 0) (sym was.rest) ∙ first
@@ -90,7 +101,8 @@ module _ (threads : List Plan) (all left rest : List FrontModel) (h i k : List B
       map (λ (x : GroupHistory). x.group) now ≡ filter (is_declared threads) (take (count + 1) group_numbers)
   groups_more b declared of is =
       ap (map (λ (x : GroupHistory). x.group)) is ∙ by b declared
-      ∙ sym (ap (filter (is_declared threads)) (numbers_more count low) ∙ filter-append (is_declared threads) (take count group_numbers) (count ∷ []))
+      ∙ sym (ap (filter (is_declared threads)) (numbers_more count low)
+      ∙ filter-append (is_declared threads) (take count group_numbers) (count ∷ []))
     where
       by : (c : Bool) → is_declared threads count ≡ c → map (λ (x : GroupHistory). x.group) (cond c (ended ++ history ∷ []) ended)
           ≡ filter (is_declared threads) (take count group_numbers) ++ filter (is_declared threads) (count ∷ [])
@@ -107,21 +119,26 @@ module _ (threads : List Plan) (all left rest : List FrontModel) (h i k : List B
   few_more true is = let e = ap length is in let f = length-append ended (history ∷ []) in let few = was.few in omega (arith, e, f, few)
   few_more false is = let e = ap length is in let few = was.few in omega (arith, e, few)
 
-  entries_more : (b : Bool) → now ≡ cond b (ended ++ history ∷ []) ended → history.entries.items ≡ history_at (histories_of all) history.group →
+  entries_more : (b : Bool) → now ≡ cond b (ended ++ history ∷ []) ended →
+      history.entries.items ≡ history_at (histories_of all) history.group →
       All (λ (x : GroupHistory). x.entries.items ≡ history_at (histories_of all) x.group) now
   entries_more b is own = subst (All (λ (x : GroupHistory). x.entries.items ≡ history_at (histories_of all) x.group)) (sym is) (by b)
     where
-      by : (c : Bool) → All (λ (x : GroupHistory). x.entries.items ≡ history_at (histories_of all) x.group) (cond c (ended ++ history ∷ []) ended)
+      by : (c : Bool) → All (λ (x : GroupHistory). x.entries.items ≡ history_at (histories_of all) x.group)
+          (cond c (ended ++ history ∷ []) ended)
       by true = All-push (λ (x : GroupHistory). x.entries.items ≡ history_at (histories_of all) x.group) ended history was.entries own
       by false = was.entries
 
-  pub letting_more : slice_get left 0 ≡ Some front → rest ≡ drop 1 left → LetsGo i k → ((other : ℕ) → other ≢ count → Learns (link_of i other) (link_of k other)) →
-      history.group ≡ count → history.entries.items ≡ front.history → (b : Bool) → is_declared threads count ≡ b → now ≡ cond b (ended ++ history ∷ []) ended →
+  pub letting_more : slice_get left 0 ≡ Some front → rest ≡ drop 1 left → LetsGo i k →
+      ((other : ℕ) → other ≢ count → Learns (link_of i other) (link_of k other)) →
+      history.group ≡ count → history.entries.items ≡ front.history → (b : Bool) → is_declared threads count ≡ b →
+      now ≡ cond b (ended ++ history ∷ []) ended →
       Letting threads all rest h k now (count + 1)
   letting_more first rest_is lets others of entries b declared is = record {
     rest = rest_is ∙ ap (drop 1) was.rest ∙ drop_next all count ∙ ap (λ (n : ℕ). drop n all) (sym (add-one count));
     some = subst (λ (l : List FrontModel). length l + (count + 1) ≡ 8) (sym rest_is) (drop_shorter left count was.some low);
-    owns = λ group f at high. owns_still (face f.core).objects (link_of i group) (link_of k group) (was.owns group f at (omega (arith, high)))
+    owns = λ group f at high. owns_still (face f.core).objects (link_of i group) (link_of k group)
+        (was.owns group f at (omega (arith, high)))
         (others group (λ same. absurd (omega (arith, same, high))));
     lets = lets_then h i k was.lets lets;
     groups = groups_more b declared of is;
@@ -130,26 +147,33 @@ module _ (threads : List Plan) (all left rest : List FrontModel) (h i k : List B
   }
 
 -- all were let go
-pub all_groups : (threads : List Plan) (all left : List FrontModel) (h k : List BackEvent) (ended : List GroupHistory) (count : ℕ) → Letting threads all left h k ended count → count ≡ 8 →
+pub all_groups : (threads : List Plan) (all left : List FrontModel) (h k : List BackEvent) (ended : List GroupHistory) (count : ℕ) →
+    Letting threads all left h k ended count → count ≡ 8 →
     map (λ history. history.group) ended ≡ declared threads
-all_groups threads all left h k ended count letting is = letting.groups ∙ ap (λ (n : ℕ). filter (is_declared threads) (take n group_numbers)) is
+all_groups threads all left h k ended count letting is = letting.groups
+    ∙ ap (λ (n : ℕ). filter (is_declared threads) (take n group_numbers)) is
 
 -- A front let go of what it had
 
 module _ (law : (h : List BackEvent) (g : ℕ) → (link_of h g).group ≡ g) where
-  pub let_go_group : (h k : List BackEvent) (g n : ℕ) → AtBack (link_of h g) (link_of k n) (Some h) (Some k) 0 false false NoBatch → GoesOn g (Some h) (Some k)
+  pub let_go_group : (h k : List BackEvent) (g n : ℕ) → AtBack (link_of h g) (link_of k n) (Some h) (Some k) 0 false false NoBatch →
+      GoesOn g (Some h) (Some k)
   let_go_group h k g n at_back = subst (λ (m : ℕ). GoesOn m (Some h) (Some k)) (law h g) at_back.goes_on
 
-  pub let_go_lets : ((h k : List BackEvent) (a : ℕ) (gained : List Own) → GoesOn a (Some h) (Some k) → (link_of k a).mine ≡ (link_of h a).mine ++ gained →
+  pub let_go_lets : ((h k : List BackEvent) (a : ℕ) (gained : List Own) → GoesOn a (Some h) (Some k) →
+      (link_of k a).mine ≡ (link_of h a).mine ++ gained →
       host_bytes (journal_of k) ≡ host_bytes (journal_of h) + uploaded gained) →
-      ((h k : List BackEvent) (a : ℕ) → IsRun k → GoesOn a (Some h) (Some k) → (link_of k a).kinds ≡ (link_of h a).kinds → (id : ℕ) → kind_of (journal_of k) id ≡ kind_of (journal_of h) id) →
+      ((h k : List BackEvent) (a : ℕ) → IsRun k → GoesOn a (Some h) (Some k) → (link_of k a).kinds ≡ (link_of h a).kinds → (id : ℕ) →
+      kind_of (journal_of k) id ≡ kind_of (journal_of h) id) →
       (h k : List BackEvent) (g n : ℕ) (held : ℕ → Bool) → IsRun k → link_of k n ≡ record (link_of h g) { held = held } →
       AtBack (link_of h g) (link_of k n) (Some h) (Some k) 0 false false NoBatch → LetsGo h k
   let_go_lets wrote objects h k g n held run rest at_back =
       let goes = let_go_group h k g n at_back in
       let same : n ≡ g = sym (law k n) ∙ at_back.group ∙ law h g in
-      let kinds : (link_of k g).kinds ≡ (link_of h g).kinds = ap (λ (m : ℕ). (link_of k m).kinds) (sym same) ∙ ap (λ (l : Link). l.kinds) rest in
-      let mine : (link_of k g).mine ≡ (link_of h g).mine ++ at_back.gained = ap (λ (m : ℕ). (link_of k m).mine) (sym same) ∙ at_back.grows in
+      let kinds : (link_of k g).kinds ≡ (link_of h g).kinds = ap (λ (m : ℕ). (link_of k m).kinds) (sym same)
+      ∙ ap (λ (l : Link). l.kinds) rest in
+      let mine : (link_of k g).mine ≡ (link_of h g).mine ++ at_back.gained = ap (λ (m : ℕ). (link_of k m).mine) (sym same)
+      ∙ at_back.grows in
       let bytes = wrote h k g at_back.gained goes mine in
       let few = at_back.uploads in
       record { objects = objects h k g run goes kinds; written = omega (arith, bytes, few); going = at_back.going refl }
@@ -165,14 +189,17 @@ front_at [] x y i at = absurd (cc)
 front_at (z ∷ xs) x y zero at = at
 front_at (z ∷ xs) x y (suc i) at = front_at xs x y i at
 
-pub last_owns : (all rest : List FrontModel) (front : FrontModel) (h : List BackEvent) (n : ℕ) → all ≡ rest ++ front ∷ [] → n ≡ length rest → OwnTheirs all h →
+pub last_owns : (all rest : List FrontModel) (front : FrontModel) (h : List BackEvent) (n : ℕ) → all ≡ rest ++ front ∷ [] →
+    n ≡ length rest → OwnTheirs all h →
     Owns (face front.core).objects (link_of h n)
 last_owns all rest front h n is count owns =
     owns n front (ap (λ (l : List FrontModel). slice_get l n) is ∙ ap (slice_get (rest ++ front ∷ [])) count ∙ last_at rest front)
 
-pub rest_own : (all rest : List FrontModel) (front : FrontModel) (h k : List BackEvent) (n : ℕ) → all ≡ rest ++ front ∷ [] → n ≡ length rest → OwnTheirs all h →
+pub rest_own : (all rest : List FrontModel) (front : FrontModel) (h k : List BackEvent) (n : ℕ) → all ≡ rest ++ front ∷ [] →
+    n ≡ length rest → OwnTheirs all h →
     ((other : ℕ) → other ≢ n → Learns (link_of h other) (link_of k other)) → OwnTheirs rest k
 rest_own all rest front h k n is count owns others group f at =
     let low = slice_get_within rest group f at in
     owns_still (face f.core).objects (link_of h group) (link_of k group)
-    (owns group f (ap (λ (l : List FrontModel). slice_get l group) is ∙ front_at rest front f group at)) (others group (λ same. absurd (omega (arith, same, count, low))))
+    (owns group f (ap (λ (l : List FrontModel). slice_get l group) is ∙ front_at rest front f group at))
+    (others group (λ same. absurd (omega (arith, same, count, low))))

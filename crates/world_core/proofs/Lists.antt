@@ -24,9 +24,11 @@ get_set_other (z ∷ xs) (suc i) (suc j) y ne = get_set_other xs i j y (λ e. ne
 pub same_at : {X : Type 0} (xs : List X) (i : ℕ) (x y : X) → slice_get xs i ≡ Some x → slice_get xs i ≡ Some y → x ≡ y
 same_at xs i x y at_x at_y = let e : Some x ≡ Some y = sym at_x ∙ at_y in cc
 
-pub history_is : (fronts : List FrontModel) (group : ℕ) (front : FrontModel) → slice_get fronts group ≡ Some front → history_at (histories_of fronts) group ≡ front.history
+pub history_is : (fronts : List FrontModel) (group : ℕ) (front : FrontModel) → slice_get fronts group ≡ Some front →
+    history_at (histories_of fronts) group ≡ front.history
 history_is fronts group front at =
-    ap (λ (o : Option (List Entry)). unwrap_or o []) (slice_get-map (λ (f : FrontModel). f.history) fronts group ∙ ap (option_map (λ (f : FrontModel). f.history)) at)
+    ap (λ (o : Option (List Entry)). unwrap_or o []) (slice_get-map (λ (f : FrontModel). f.history) fronts group
+    ∙ ap (option_map (λ (f : FrontModel). f.history)) at)
 
 pub history_other : (fronts : List FrontModel) (group other : ℕ) (front : FrontModel) → other ≢ group →
     history_at (histories_of (slice_set fronts group front)) other ≡ history_at (histories_of fronts) other
@@ -37,13 +39,15 @@ history_other fronts group other front ne =
     ∙ sym (slice_get-map (λ (f : FrontModel). f.history) fronts other))
 
 -- a front with the same history leaves the histories as they were
-pub same_histories : (fronts : List FrontModel) (group : ℕ) (before after : FrontModel) → slice_get fronts group ≡ Some before → after.history ≡ before.history →
+pub same_histories : (fronts : List FrontModel) (group : ℕ) (before after : FrontModel) → slice_get fronts group ≡ Some before →
+    after.history ≡ before.history →
     histories_of (slice_set fronts group after) ≡ histories_of fronts
 same_histories [] group before after at same = refl
 same_histories (front ∷ fronts) zero before after at same =
     let is : front ≡ before = cc in
     ap (λ (h : List Entry). h ∷ histories_of fronts) (same ∙ sym (ap (λ (f : FrontModel). f.history) is))
-same_histories (front ∷ fronts) (suc group) before after at same = ap (λ (hs : List (List Entry)). front.history ∷ hs) (same_histories fronts group before after at same)
+same_histories (front ∷ fronts) (suc group) before after at same = ap (λ (hs : List (List Entry)). front.history ∷ hs)
+    (same_histories fronts group before after at same)
 
 -- the group's number stands among those of the groups
 pub number_at : (group : ℕ) → group < 8 → slice_get group_numbers group ≡ Some group
@@ -59,4 +63,5 @@ number_at (suc (suc (suc (suc (suc (suc (suc (suc group)))))))) low = absurd (om
 
 -- an element that was read
 pub read_at : {X : Type 0} (xs : List X) (i j : ℕ) (x : X) → i ≡ j → j < length xs → x ≡ get_or xs i x → slice_get xs j ≡ Some x
-read_at xs i j x same low is = subst (λ (n : ℕ). slice_get xs n ≡ Some x) same (slice_get_read xs (length xs) i x refl (omega (arith, same, low)) is)
+read_at xs i j x same low is = subst (λ (n : ℕ). slice_get xs n ≡ Some x) same
+    (slice_get_read xs (length xs) i x refl (omega (arith, same, low)) is)

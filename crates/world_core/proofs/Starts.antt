@@ -1,5 +1,6 @@
 -- What a world begins with.
-use Rattle.std.proofs.Common.{◌≡◌, ◌≢◌, ℕ, suc, zero, ◌+◌, ◌-◌, ◌≤◌, ◌<◌, Bool, true, false, List, [], ◌∷◌, ◌++◌, length, get_or, map, take, replicate, Some, None, refl, sym, ap, ◌∙◌, subst, arith, eq-eqb}
+use Rattle.std.proofs.Common.{◌≡◌, ◌≢◌, ℕ, suc, zero, ◌+◌, ◌-◌, ◌≤◌, ◌<◌, Bool, true, false, List, [], ◌∷◌, ◌++◌, length, get_or, map}
+use Rattle.std.proofs.Common.{take, replicate, Some, None, refl, sym, ap, ◌∙◌, subst, arith, eq-eqb}
 use Rattle.std.specs.Prelude.{slice_get, Option, unwrap_or}
 use Rattle.std.specs.Option.{option_map}
 use Rattle.std.proofs.Math.Dec.{eqb}
@@ -38,7 +39,8 @@ take_none zero = refl
 take_none (suc n) = refl
 
 -- an empty list that was filled up
-pub filled : {X : Type 0} (items old : List X) (n m : ℕ) (x : X) → items ≡ take n old ++ replicate (n - m) x → old ≡ [] → m ≡ 0 → items ≡ replicate n x
+pub filled : {X : Type 0} (items old : List X) (n m : ℕ) (x : X) → items ≡ take n old ++ replicate (n - m) x → old ≡ [] → m ≡ 0 →
+    items ≡ replicate n x
 filled {X} items old n m x is empty none =
     is ∙ ap (λ (l : List X). take n l ++ replicate (n - m) x) empty ∙ ap (λ (l : List X). l ++ replicate (n - m) x) (take_none n)
     ∙ ap (λ (k : ℕ). replicate k x) (omega (arith, none))
@@ -50,25 +52,29 @@ at_filled items n i is low =
     ∙ ap Some (get_or-replicate n i false false low)
 
 -- the line of a thread's plan is one of its lines
-pub line_in : (threads : List ThreadPlan) (thread place : ℕ) (line : Line) (of : ThreadPlan) → slice_get threads thread ≡ Some of → IsLineOf (map plan threads) thread place line →
+pub line_in : (threads : List ThreadPlan) (thread place : ℕ) (line : Line) (of : ThreadPlan) → slice_get threads thread ≡ Some of →
+    IsLineOf (map plan threads) thread place line →
     slice_get of.lines.items place ≡ Some line
 line_in threads thread place line of at is =
     let here : Some (plan of) ≡ Some is.plan = sym (slice_get-map plan threads thread ∙ ap (option_map plan) at) ∙ is.is_thread in
     let same : plan of ≡ is.plan = cc in
     subst (λ (p : Plan). slice_get p.lines place ≡ Some line) (sym same) is.is_line
 
-pub thread_within : (threads : List ThreadPlan) (thread place : ℕ) (line : Line) → IsLineOf (map plan threads) thread place line → thread < length threads
+pub thread_within : (threads : List ThreadPlan) (thread place : ℕ) (line : Line) → IsLineOf (map plan threads) thread place line →
+    thread < length threads
 thread_within [] thread place line is = absurd (none thread is.is_thread)
   where
     none : (t : ℕ) → slice_get [] t ≡ Some is.plan → ⊥
     none t e = absurd (cc)
 thread_within (of ∷ threads) zero place line is = omega arith
 thread_within (of ∷ threads) (suc thread) place line is =
-    let low : thread < length threads = thread_within threads thread place line (record { plan = is.plan; is_thread = is.is_thread; is_line = is.is_line }) in
+    let low : thread < length threads = thread_within threads thread place line
+    (record { plan = is.plan; is_thread = is.is_thread; is_line = is.is_line }) in
     omega (arith, low)
 
 -- the numbers of one more thread's lines are past
-pub past_more : (threads : List ThreadPlan) (count past now : ℕ) (of : ThreadPlan) (lines : List Line) → count < length threads → of ≡ get_or threads count of → lines ≡ of.lines.items →
+pub past_more : (threads : List ThreadPlan) (count past now : ℕ) (of : ThreadPlan) (lines : List Line) → count < length threads →
+    of ≡ get_or threads count of → lines ≡ of.lines.items →
     ((thread place : ℕ) (line : Line) → thread < count → IsLineOf (map plan threads) thread place line → line.number < past) →
     ((place : ℕ) (line : Line) → slice_get lines place ≡ Some line → line.number < now) → past ≤ now →
     (thread place : ℕ) (line : Line) → thread < count + 1 → IsLineOf (map plan threads) thread place line → line.number < now
@@ -77,7 +83,8 @@ past_more threads count past now of lines low of_is lines_are before here later 
     by : (b : Bool) → eqb thread count ≡ b → line.number < now
     by true same =
         here place line (subst (λ (l : List Line). slice_get l place ≡ Some line) (sym lines_are)
-        (line_in threads thread place line of (read_at threads count thread of (sym (eqb-true thread count same)) (omega (arith, low, eqb-true thread count same)) of_is) is))
+        (line_in threads thread place line of
+        (read_at threads count thread of (sym (eqb-true thread count same)) (omega (arith, low, eqb-true thread count same)) of_is) is))
     by false same =
         let ne : thread ≢ count = λ is_same. false≢true (sym same ∙ eq-eqb thread count is_same) in
         let was = before thread place line (omega (arith, in_range, ne)) is in
@@ -88,7 +95,8 @@ past_more threads count past now of lines low of_is lines_are before here later 
 pub new_none : (threads : List Plan) → AreNew threads []
 new_none threads group front at = absurd (cc)
 
-pub new_more : (threads : List Plan) (fronts : List FrontModel) (group : ℕ) (front : FrontModel) → length fronts ≡ group → AreNew threads fronts → IsNewFront front group (members threads group) →
+pub new_more : (threads : List Plan) (fronts : List FrontModel) (group : ℕ) (front : FrontModel) → length fronts ≡ group →
+    AreNew threads fronts → IsNewFront front group (members threads group) →
     AreNew threads (fronts ++ front ∷ [])
 new_more threads fronts group front count new is other f at = by (eqb other group) refl
   where
@@ -107,7 +115,8 @@ new_more threads fronts group front count new is other f at = by (eqb other grou
         let here : other ≡ group = eqb-true other group same in
         let e : Some front ≡ Some f = sym (past fronts front) ∙ ap (slice_get (fronts ++ front ∷ [])) (count ∙ sym here) ∙ at in
         let front_is : front ≡ f = cc in
-        subst (λ (n : ℕ). IsNewFront f n (members threads n)) (sym here) (subst (λ (x : FrontModel). IsNewFront x group (members threads group)) front_is is)
+        subst (λ (n : ℕ). IsNewFront f n (members threads n)) (sym here)
+        (subst (λ (x : FrontModel). IsNewFront x group (members threads group)) front_is is)
     by false same =
         let ne : other ≢ length fronts = λ e. false≢true (sym same ∙ eq-eqb other group (e ∙ count)) in
         new other f (sym (before fronts front other ne) ∙ at)
@@ -115,23 +124,28 @@ new_more threads fronts group front count new is other f at = by (eqb other grou
 abbrev pub NewLinks : Type 0
 NewLinks = (g : ℕ) → IsNew (link_of [] g) g
 
-pub new_own : NewLinks → (threads : List Plan) (fronts : List FrontModel) (h : List BackEvent) → h ≡ [] → AreNew threads fronts → OwnTheirs fronts h
+pub new_own : NewLinks → (threads : List Plan) (fronts : List FrontModel) (h : List BackEvent) → h ≡ [] → AreNew threads fronts →
+    OwnTheirs fronts h
 new_own law threads fronts h empty new group front at =
     subst (λ (i : List BackEvent). Owns (face front.core).objects (link_of i group)) (sym empty)
     (stands_own front (link_of [] group) ((new group front at).stands (link_of [] group) (law group)))
 
 -- The histories of new fronts are empty
 
-new_history : (threads : List Plan) (fronts : List FrontModel) → AreNew threads fronts → (group : ℕ) → history_at (histories_of fronts) group ≡ []
-new_history threads fronts new group = ap (λ (o : Option (List Entry)). unwrap_or o []) (slice_get-map (λ (f : FrontModel). f.history) fronts group) ∙ by (slice_get fronts group) refl
+new_history : (threads : List Plan) (fronts : List FrontModel) → AreNew threads fronts → (group : ℕ) →
+    history_at (histories_of fronts) group ≡ []
+new_history threads fronts new group = ap (λ (o : Option (List Entry)). unwrap_or o [])
+    (slice_get-map (λ (f : FrontModel). f.history) fronts group) ∙ by (slice_get fronts group) refl
   where
     by : (o : Option FrontModel) → slice_get fronts group ≡ o → unwrap_or (option_map (λ (f : FrontModel). f.history) o) [] ≡ []
     by None at = refl
     by (Some front) at = (new group front at).empty
 
-pub new_histories : (threads : List Plan) (fronts : List FrontModel) → length fronts ≡ 8 → AreNew threads fronts → histories_of fronts ≡ map (λ group. []) group_numbers
+pub new_histories : (threads : List Plan) (fronts : List FrontModel) → length fronts ≡ 8 → AreNew threads fronts →
+    histories_of fronts ≡ map (λ group. []) group_numbers
 new_histories threads (a ∷ b ∷ c ∷ d ∷ e ∷ f ∷ g ∷ h ∷ []) eight new =
-    eight_same (new 0 a refl).empty (new 1 b refl).empty (new 2 c refl).empty (new 3 d refl).empty (new 4 e refl).empty (new 5 f refl).empty (new 6 g refl).empty (new 7 h refl).empty
+    eight_same (new 0 a refl).empty (new 1 b refl).empty (new 2 c refl).empty (new 3 d refl).empty (new 4 e refl).empty
+    (new 5 f refl).empty (new 6 g refl).empty (new 7 h refl).empty
   where
     eight_same : {p q r s t u v w : List Entry} → p ≡ [] → q ≡ [] → r ≡ [] → s ≡ [] → t ≡ [] → u ≡ [] → v ≡ [] → w ≡ [] →
         p ∷ q ∷ r ∷ s ∷ t ∷ u ∷ v ∷ w ∷ [] ≡ [] ∷ [] ∷ [] ∷ [] ∷ [] ∷ [] ∷ [] ∷ [] ∷ []
@@ -157,22 +171,28 @@ play_with d hs = record { done = d; histories = hs }
 
 module _ (links : NewLinks) (whole : CleansWhole []) (going : IsGoing (Some [])) (opening : journal_of [] ≡ [])
     (plays : (threads : List Plan) → HasPlayed threads (opening_play threads)) where
-  begins_empty : (threads : List Plan) (done : List ℕ) (answered : List Bool) (fronts : List FrontModel) → IsServed threads → done ≡ none_done threads →
+  begins_empty : (threads : List Plan) (done : List ℕ) (answered : List Bool) (fronts : List FrontModel) → IsServed threads →
+      done ≡ none_done threads →
       ((thread place : ℕ) (line : Line) → IsLineOf threads thread place line → slice_get answered line.number ≡ Some false) →
       length fronts ≡ 8 → AreNew threads fronts → Keeps threads done answered fronts [] true
   begins_empty threads done answered fronts served none unanswered eight new =
       let histories : (λ group. history_at (histories_of fronts) group) ≡ (λ group. []) = fun_ext (new_history threads fronts new) in
       let same : opening_play threads ≡ played_of done fronts
-      = ap (λ (hs : ℕ → List Entry). play_with (none_done threads) hs) (sym histories) ∙ ap (λ (d : List ℕ). play_at d (histories_of fronts)) (sym none) in
+      = ap (λ (hs : ℕ → List Entry). play_with (none_done threads) hs) (sym histories)
+      ∙ ap (λ (d : List ℕ). play_at d (histories_of fronts)) (sym none) in
       record {
         served = served;
         played = subst (HasPlayed threads) same (plays threads);
-        noted = λ group number has. subst (λ (h : List Entry). slice_get answered number ≡ Some (is_answered h number)) (sym (new_history threads fronts new group))
+        noted = λ group number has. subst (λ (h : List Entry). slice_get answered number ≡ Some (is_answered h number))
+            (sym (new_history threads fronts new group))
             (subst (λ (n : ℕ). slice_get answered n ≡ Some false) has.numbered (unanswered has.thread has.place has.line has.is));
-        fronts_are = record { eight = eight; each = λ group front at. record {
-          threads_are = (new group front at).threads_are;
-          owns = new_own links threads fronts [] refl new group front at;
-        } };
+        fronts_are = record {
+          eight = eight;
+          each = λ group front at. record {
+            threads_are = (new group front at).threads_are;
+            owns = new_own links threads fronts [] refl new group front at;
+          };
+        };
         runs = λ on. record {
           goes = record {
             stand = λ group front at. (new group front at).stands (link_of [] group) (links group);
@@ -185,10 +205,13 @@ module _ (links : NewLinks) (whole : CleansWhole []) (going : IsGoing (Some []))
       }
     where
       few : host_bytes (journal_of []) ≤ due_in threads (played_of done fronts)
-      few = subst (λ (l : List Logged). host_bytes l ≤ due_in threads (played_of done fronts)) (sym opening) (none_written (due_in threads (played_of done fronts)))
+      few = subst (λ (l : List Logged). host_bytes l ≤ due_in threads (played_of done fronts)) (sym opening)
+          (none_written (due_in threads (played_of done fronts)))
 
-  pub begins : (threads : List Plan) (done : List ℕ) (answered : List Bool) (fronts : List FrontModel) (h : List BackEvent) → h ≡ [] → IsServed threads → done ≡ none_done threads →
+  pub begins : (threads : List Plan) (done : List ℕ) (answered : List Bool) (fronts : List FrontModel) (h : List BackEvent) → h ≡ [] →
+      IsServed threads → done ≡ none_done threads →
       ((thread place : ℕ) (line : Line) → IsLineOf threads thread place line → slice_get answered line.number ≡ Some false) →
       length fronts ≡ 8 → AreNew threads fronts → Keeps threads done answered fronts h true
   begins threads done answered fronts h empty served none unanswered eight new =
-      subst (λ (i : List BackEvent). Keeps threads done answered fronts i true) (sym empty) (begins_empty threads done answered fronts served none unanswered eight new)
+      subst (λ (i : List BackEvent). Keeps threads done answered fronts i true) (sym empty)
+      (begins_empty threads done answered fronts served none unanswered eight new)

@@ -23,39 +23,49 @@ use Rattle.world_core.specs.Steps.{IsAtBack, IsStep, IsHalt, HasHalted, HasFaile
 use Rattle.world_core.specs.Ends.{HasClosed, HasFinished}
 use Rattle.world_core.specs.Inside.{Keeps, LetsGo, world_of, histories_of, HasSubmitted, HasTurned, HasRetired, HasCleaned}
 
-module _ {D : Type 0} (journal : D → List Logged) (threads : List Plan) (done : List ℕ) (fronts : List FrontModel) (back now : BackModel D) (running : Bool)
+module _ {D : Type 0} (journal : D → List Logged) (threads : List Plan) (done : List ℕ) (fronts : List FrontModel)
+    (back now : BackModel D) (running : Bool)
     (old : WorldModel D) (is : world_of threads done fronts back running ≡ old) where
   at_back : IsAtBack (world_of threads done fronts back running) (world_of threads done fronts now true)
   at_back = record { threads = refl; play = refl; running = refl }
 
-  submit_did : (s : Stepped) → HasSubmitted back.history now.history s → IsStep journal (world_of threads done fronts back running) (world_of threads done fronts now true) event.Submit s
+  submit_did : (s : Stepped) → HasSubmitted back.history now.history s →
+      IsStep journal (world_of threads done fronts back running) (world_of threads done fronts now true) event.Submit s
   submit_did Done did = (at_back, did)
   submit_did Nothing did = (at_back, did)
   submit_did NotReady did = did
   submit_did Ended did = did
 
-  pub submit_step : (r : Result Stepped Stop) → IfOk r (λ s. HasSubmitted back.history now.history s) → IfOk r (λ s. IsStep journal old (world_of threads done fronts now (is_ok r)) event.Submit s)
-  submit_step (Ok s) did = subst (λ (w : WorldModel D). IsStep journal w (world_of threads done fronts now true) event.Submit s) is (submit_did s did)
+  pub submit_step : (r : Result Stepped Stop) → IfOk r (λ s. HasSubmitted back.history now.history s) →
+      IfOk r (λ s. IsStep journal old (world_of threads done fronts now (is_ok r)) event.Submit s)
+  submit_step (Ok s) did = subst (λ (w : WorldModel D). IsStep journal w (world_of threads done fronts now true) event.Submit s) is
+      (submit_did s did)
   submit_step (Err e) did = tt
 
-  turn_did : (s : Stepped) → HasTurned back.history now.history s → IsStep journal (world_of threads done fronts back running) (world_of threads done fronts now true) event.Turn s
+  turn_did : (s : Stepped) → HasTurned back.history now.history s →
+      IsStep journal (world_of threads done fronts back running) (world_of threads done fronts now true) event.Turn s
   turn_did Done did = (at_back, did)
   turn_did Nothing did = (at_back, did)
   turn_did NotReady did = did
   turn_did Ended did = did
 
-  pub turn_step : (r : Result Stepped Stop) → IfOk r (λ s. HasTurned back.history now.history s) → IfOk r (λ s. IsStep journal old (world_of threads done fronts now (is_ok r)) event.Turn s)
-  turn_step (Ok s) did = subst (λ (w : WorldModel D). IsStep journal w (world_of threads done fronts now true) event.Turn s) is (turn_did s did)
+  pub turn_step : (r : Result Stepped Stop) → IfOk r (λ s. HasTurned back.history now.history s) →
+      IfOk r (λ s. IsStep journal old (world_of threads done fronts now (is_ok r)) event.Turn s)
+  turn_step (Ok s) did = subst (λ (w : WorldModel D). IsStep journal w (world_of threads done fronts now true) event.Turn s) is
+      (turn_did s did)
   turn_step (Err e) did = tt
 
-  retire_did : (s : Stepped) → running ≡ true → HasRetired back now s → IsStep journal (world_of threads done fronts back running) (world_of threads done fronts now running) event.Retire s
+  retire_did : (s : Stepped) → running ≡ true → HasRetired back now s →
+      IsStep journal (world_of threads done fronts back running) (world_of threads done fronts now running) event.Retire s
   retire_did Done on did = (record { threads = refl; play = refl; running = on }, did)
   retire_did Nothing on did = (ap (λ (b : BackModel D). world_of threads done fronts b running) did.0, did.1)
   retire_did NotReady on did = did
   retire_did Ended on did = did
 
-  pub retire_step : (s : Stepped) → running ≡ true → HasRetired back now s → IsStep journal old (world_of threads done fronts now running) event.Retire s
-  retire_step s on did = subst (λ (w : WorldModel D). IsStep journal w (world_of threads done fronts now running) event.Retire s) is (retire_did s on did)
+  pub retire_step : (s : Stepped) → running ≡ true → HasRetired back now s →
+      IsStep journal old (world_of threads done fronts now running) event.Retire s
+  retire_step s on did = subst (λ (w : WorldModel D). IsStep journal w (world_of threads done fronts now running) event.Retire s) is
+      (retire_did s on did)
 
   clean_did : (read : List ℕ) (s : Stepped) → HasCleaned journal back now read s →
       IsStep journal (world_of threads done fronts back running) (world_of threads done fronts now true) (event.Cleanup read) s
@@ -66,7 +76,8 @@ module _ {D : Type 0} (journal : D → List Logged) (threads : List Plan) (done 
 
   pub clean_step : (read : List ℕ) (r : Result Stepped Stop) → IfOk r (λ s. HasCleaned journal back now read s) →
       IfOk r (λ s. IsStep journal old (world_of threads done fronts now (is_ok r)) (event.Cleanup read) s)
-  clean_step read (Ok s) did = subst (λ (w : WorldModel D). IsStep journal w (world_of threads done fronts now true) (event.Cleanup read) s) is (clean_did read s did)
+  clean_step read (Ok s) did = subst
+      (λ (w : WorldModel D). IsStep journal w (world_of threads done fronts now true) (event.Cleanup read) s) is (clean_did read s did)
   clean_step read (Err e) did = tt
 
   -- a stop
@@ -74,7 +85,8 @@ module _ {D : Type 0} (journal : D → List Logged) (threads : List Plan) (done 
   pub submit_halt : (r : Result Stepped Stop) → IfErr r (λ stop. now.history ≡ stopped_by back.history stop) →
       IfErr r (λ stop. IsHalt journal old (world_of threads done fronts now (is_ok r)) event.Submit stop)
   submit_halt (Ok s) did = tt
-  submit_halt (Err stop) did = subst (λ (w : WorldModel D). IsHalt journal w (world_of threads done fronts now false) event.Submit stop) is did
+  submit_halt (Err stop) did = subst
+      (λ (w : WorldModel D). IsHalt journal w (world_of threads done fronts now false) event.Submit stop) is did
 
   pub turn_halt : (r : Result Stepped Stop) → IfErr r (λ stop. now.history ≡ stopped_by back.history stop) →
       IfErr r (λ stop. IsHalt journal old (world_of threads done fronts now (is_ok r)) event.Turn stop)
@@ -84,33 +96,39 @@ module _ {D : Type 0} (journal : D → List Logged) (threads : List Plan) (done 
   pub clean_halt : (read : List ℕ) (r : Result Stepped Stop) → IfErr r (λ stop. CleansSome journal back now read stop) →
       IfErr r (λ stop. IsHalt journal old (world_of threads done fronts now (is_ok r)) (event.Cleanup read) stop)
   clean_halt read (Ok s) did = tt
-  clean_halt read (Err stop) did = subst (λ (w : WorldModel D). IsHalt journal w (world_of threads done fronts now false) (event.Cleanup read) stop) is did
+  clean_halt read (Err stop) did = subst
+      (λ (w : WorldModel D). IsHalt journal w (world_of threads done fronts now false) (event.Cleanup read) stop) is did
 
-  pub halted : {A : Type 0} (r : Result A Stop) (done_after : List ℕ) (fronts_after : List FrontModel) → OnErr r (done_after ≡ done) → OnErr r (histories_of fronts_after ≡ histories_of fronts) →
+  pub halted : {A : Type 0} (r : Result A Stop) (done_after : List ℕ) (fronts_after : List FrontModel) → OnErr r (done_after ≡ done) →
+      OnErr r (histories_of fronts_after ≡ histories_of fronts) →
       OnErr r (HasHalted old (world_of threads done_after fronts_after now (is_ok r)))
   halted (Ok a) done_after fronts_after same_done same = tt
-  halted (Err stop) done_after fronts_after same_done same = subst (λ (w : WorldModel D). HasHalted w (world_of threads done_after fronts_after now false)) is (record {
-    threads = refl;
-    play = ap (λ (l : List ℕ). play_at l (histories_of fronts_after)) same_done ∙ ap (play_at done) same;
-    running = refl;
-  })
+  halted (Err stop) done_after fronts_after same_done same = subst
+      (λ (w : WorldModel D). HasHalted w (world_of threads done_after fronts_after now false)) is (record {
+        threads = refl;
+        play = ap (λ (l : List ℕ). play_at l (histories_of fronts_after)) same_done ∙ ap (play_at done) same;
+        running = refl;
+      })
 
   -- the same, of a step that leaves the threads and fronts
   pub halted_back : {A : Type 0} (r : Result A Stop) → OnErr r (HasHalted old (world_of threads done fronts now (is_ok r)))
   halted_back (Ok a) = tt
-  halted_back (Err stop) = subst (λ (w : WorldModel D). HasHalted w (world_of threads done fronts now false)) is (record { threads = refl; play = refl; running = refl })
+  halted_back (Err stop) = subst (λ (w : WorldModel D). HasHalted w (world_of threads done fronts now false)) is
+      (record { threads = refl; play = refl; running = refl })
 
   -- a call
 
   pub call_step : (on : running ≡ true) (r : Result Stepped Stop) (thread : ℕ) (done_after : List ℕ) (fronts_after : List FrontModel) →
-      IfOk r (λ s. IsStep journal (world_of threads done fronts back true) (world_of threads done_after fronts_after now true) (event.Call thread) s) →
+      IfOk r (λ s. IsStep journal (world_of threads done fronts back true) (world_of threads done_after fronts_after now true)
+      (event.Call thread) s) →
       IfOk r (λ s. IsStep journal old (world_of threads done_after fronts_after now (is_ok r)) (event.Call thread) s)
   call_step on (Ok s) thread done_after fronts_after did =
       subst (λ (w : WorldModel D). IsStep journal w (world_of threads done_after fronts_after now true) (event.Call thread) s)
       (sym (ap (world_of threads done fronts back) on) ∙ is) did
   call_step on (Err e) thread done_after fronts_after did = tt
 
-  pub call_halt : (r : Result Stepped Stop) (thread : ℕ) (done_after : List ℕ) (fronts_after : List FrontModel) → OnErr r (HasFailed threads back.history now.history thread) →
+  pub call_halt : (r : Result Stepped Stop) (thread : ℕ) (done_after : List ℕ) (fronts_after : List FrontModel) →
+      OnErr r (HasFailed threads back.history now.history thread) →
       IfErr r (λ stop. IsHalt journal old (world_of threads done_after fronts_after now (is_ok r)) (event.Call thread) stop)
   call_halt (Ok s) thread done_after fronts_after did = tt
   call_halt (Err stop) thread done_after fronts_after did =
@@ -121,7 +139,8 @@ module _ {D : Type 0} (journal : D → List Logged) (threads : List Plan) (done 
   pub running_on : old.running ≡ true → running ≡ true
   running_on on = ap (λ (w : WorldModel D). w.running) is ∙ on
 
-  pub cause_step : {T : Type 0} (faults : D → ℕ) (n : ℕ) (r : Result T Stop) → HasCause (faults back.device) n r → HasCause (faults old.back.device) n r
+  pub cause_step : {T : Type 0} (faults : D → ℕ) (n : ℕ) (r : Result T Stop) → HasCause (faults back.device) n r →
+      HasCause (faults old.back.device) n r
   cause_step faults n r cause = subst (λ (w : WorldModel D). HasCause (faults w.back.device) n r) is cause
 
   pub device_step : now.device ≡ back.device → now.device ≡ old.back.device
@@ -135,44 +154,51 @@ module _ {D : Type 0} (journal : D → List Logged) (threads : List Plan) (done 
 
   -- the end
 
-  pub closed_step : {A : Type 0} (r : Result A Stop) (fronts_after : List FrontModel) → histories_of fronts_after ≡ histories_of fronts → OnOk r ((id : ℕ) → kind_of (journal_of now.history) id ≡ None) →
+  pub closed_step : {A : Type 0} (r : Result A Stop) (fronts_after : List FrontModel) → histories_of fronts_after ≡ histories_of fronts →
+      OnOk r ((id : ℕ) → kind_of (journal_of now.history) id ≡ None) →
       OnOk r (IsGoing (Some now.history)) → OnOk r (host_bytes (journal_of now.history) ≡ host_bytes (journal_of back.history)) →
-      host_bytes (journal_of back.history) ≤ due_in threads (play_at done (histories_of fronts)) → OnOk r (HasClosed old (world_of threads done fronts_after now false))
-  closed_step (Ok a) fronts_after same destroyed going written uploads = subst (λ (w : WorldModel D). HasClosed w (world_of threads done fronts_after now false)) is (record {
-    threads = refl;
-    play = ap (play_at done) same;
-    running = refl;
-    destroyed = destroyed;
-    going = going;
-    uploads = subst (λ (n : ℕ). n ≤ due_in threads (play_at done (histories_of fronts_after))) (sym written)
-        (subst (λ (l : List (List Entry)). host_bytes (journal_of back.history) ≤ due_in threads (play_at done l)) (sym same) uploads);
-  })
+      host_bytes (journal_of back.history) ≤ due_in threads (play_at done (histories_of fronts)) →
+      OnOk r (HasClosed old (world_of threads done fronts_after now false))
+  closed_step (Ok a) fronts_after same destroyed going written uploads = subst
+      (λ (w : WorldModel D). HasClosed w (world_of threads done fronts_after now false)) is (record {
+        threads = refl;
+        play = ap (play_at done) same;
+        running = refl;
+        destroyed = destroyed;
+        going = going;
+        uploads = subst (λ (n : ℕ). n ≤ due_in threads (play_at done (histories_of fronts_after))) (sym written)
+            (subst (λ (l : List (List Entry)). host_bytes (journal_of back.history) ≤ due_in threads (play_at done l)) (sym same) uploads);
+      })
   closed_step (Err stop) fronts_after same destroyed going written uploads = tt
 
   pub halted_off : {A : Type 0} (r : Result A Stop) (fronts_after : List FrontModel) → histories_of fronts_after ≡ histories_of fronts →
       OnErr r (HasHalted old (world_of threads done fronts_after now false))
   halted_off (Ok a) fronts_after same = tt
-  halted_off (Err stop) fronts_after same = subst (λ (w : WorldModel D). HasHalted w (world_of threads done fronts_after now false)) is (record {
-    threads = refl;
-    play = ap (play_at done) same;
-    running = refl;
-  })
+  halted_off (Err stop) fronts_after same = subst (λ (w : WorldModel D). HasHalted w (world_of threads done fronts_after now false)) is
+      (record {
+        threads = refl;
+        play = ap (play_at done) same;
+        running = refl;
+      })
 
   -- what holds of each world
 
-  pub lawful : (answered : List Bool) → Keeps threads done answered fronts back.history running → IsRun back.history → journal back.device ≡ journal_of back.history → IsLawful journal old
+  pub lawful : (answered : List Bool) → Keeps threads done answered fronts back.history running → IsRun back.history →
+      journal back.device ≡ journal_of back.history → IsLawful journal old
   lawful answered keeps run logged = subst (IsLawful journal) is (record {
     served = keeps.served;
     played = keeps.played;
     run = run;
     journal_is = logged;
     going = λ on. (keeps.runs on).goes.going;
-    uploads = λ on. subst (λ (l : List Logged). host_bytes l ≤ due_in threads (play_at done (histories_of fronts))) (sym logged) (keeps.runs on).uploads;
+    uploads = λ on. subst (λ (l : List Logged). host_bytes l ≤ due_in threads (play_at done (histories_of fronts))) (sym logged)
+        (keeps.runs on).uploads;
   })
 
   -- what is left of a world
 
-  pub finished_step : (last : BackModel D) (j : List Logged) → last ≡ now → IsRun last.history → j ≡ journal_of last.history → LetsGo back.history now.history → HasFinished old j
+  pub finished_step : (last : BackModel D) (j : List Logged) → last ≡ now → IsRun last.history → j ≡ journal_of last.history →
+      LetsGo back.history now.history → HasFinished old j
   finished_step last j same run logged lets = subst (λ (w : WorldModel D). HasFinished w j) is (record {
     history = last.history;
     run = run;
@@ -183,8 +209,10 @@ module _ {D : Type 0} (journal : D → List Logged) (threads : List Plan) (done 
   })
 
   pub histories_step : (groups : List GroupHistory) → map (λ history. history.group) groups ≡ declared threads →
-      All (λ history. history.entries.items ≡ history_at (histories_of fronts) history.group) groups → AreHistories old.threads (play_of old) groups
-  histories_step groups of_groups entries = subst (λ (w : WorldModel D). AreHistories w.threads (play_of w) groups) is (record { of_groups = of_groups; entries = entries })
+      All (λ history. history.entries.items ≡ history_at (histories_of fronts) history.group) groups →
+      AreHistories old.threads (play_of old) groups
+  histories_step groups of_groups entries = subst (λ (w : WorldModel D). AreHistories w.threads (play_of w) groups) is
+      (record { of_groups = of_groups; entries = entries })
 
   pub faults_step : (faults : D → ℕ) (n : ℕ) → faults back.device ≤ n → faults old.back.device ≤ n
   faults_step faults n risen = subst (λ (w : WorldModel D). faults w.back.device ≤ n) is risen

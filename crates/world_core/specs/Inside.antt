@@ -1,5 +1,6 @@
 -- What a world keeps, and what its parts do.
-use Rattle.std.specs.Prelude.{◌≡◌, ◌≢◌, ℕ, ◌≤◌, ◌<◌, ◌==◌, Bool, true, false, List, map, length, get_or, slice_get, slice_set, Option, Some, None, IsSome, Contains}
+use Rattle.std.specs.Prelude.{◌≡◌, ◌≢◌, ℕ, ◌≤◌, ◌<◌, ◌==◌, Bool, true, false, List, map, length, get_or, slice_get, slice_set, Option}
+use Rattle.std.specs.Prelude.{Some, None, IsSome, Contains}
 use Rattle.gl_calls.specs.declared.reply.Entry.{Entry}
 use Rattle.gl_calls.specs.declared.reply.Reply.{Reply}
 use Rattle.trace_text.specs.declared.trace.Line.{Line}
@@ -42,7 +43,8 @@ played_of done fronts = play_at done (histories_of fronts)
 
 -- the world of these parts
 abbrev pub world_of : {D : Type 0} → List Plan → List ℕ → List FrontModel → BackModel D → Bool → WorldModel D
-world_of threads done fronts back running = record { threads = threads; done = done; histories = histories_of fronts; back = back; running = running }
+world_of threads done fronts back running =
+    record { threads = threads; done = done; histories = histories_of fronts; back = back; running = running }
 
 -- the front of a group, which holds what it has on the device
 pub record IsFrontOf (threads : List Plan) (history : List BackEvent) (group : ℕ) (front : FrontModel) : Type 0 where
@@ -68,10 +70,12 @@ pub record Runs (threads : List Plan) (p : Play) (fronts : List FrontModel) (his
 
 -- for each line with a call it is noted whether that was answered
 abbrev pub AreNoted : List Plan → Play → List Bool → Type 0
-AreNoted threads p answered = (group number : ℕ) → HasLine threads group number → slice_get answered number ≡ Some (is_answered (p.histories group) number)
+AreNoted threads p answered = (group number : ℕ) → HasLine threads group number →
+    slice_get answered number ≡ Some (is_answered (p.histories group) number)
 
 -- what a world keeps of its threads, its fronts and its back
-pub record Keeps (threads : List Plan) (done : List ℕ) (answered : List Bool) (fronts : List FrontModel) (history : List BackEvent) (running : Bool) : Type 0 where
+pub record Keeps (threads : List Plan) (done : List ℕ) (answered : List Bool) (fronts : List FrontModel) (history : List BackEvent)
+    (running : Bool) : Type 0 where
   pub served : IsServed threads
   pub played : HasPlayed threads (played_of done fronts)
   pub noted : AreNoted threads (played_of done fronts) answered
@@ -80,11 +84,13 @@ pub record Keeps (threads : List Plan) (done : List ℕ) (answered : List Bool) 
 
 -- each front is a new one of its group
 abbrev pub AreNew : List Plan → List FrontModel → Type 0
-AreNew threads fronts = (group : ℕ) (front : FrontModel) → slice_get fronts group ≡ Some front → IsNewFront front group (members threads group)
+AreNew threads fronts = (group : ℕ) (front : FrontModel) → slice_get fronts group ≡ Some front →
+    IsNewFront front group (members threads group)
 
 -- each front holds what it has on the device
 abbrev pub OwnTheirs : List FrontModel → List BackEvent → Type 0
-OwnTheirs fronts history = (group : ℕ) (front : FrontModel) → slice_get fronts group ≡ Some front → Owns (face front.core).objects (link_of history group)
+OwnTheirs fronts history = (group : ℕ) (front : FrontModel) → slice_get fronts group ≡ Some front →
+    Owns (face front.core).objects (link_of history group)
 
 -- What the steps of the back do
 
@@ -168,7 +174,8 @@ pub record HasClosedOne (old new : List FrontModel) (h k : List BackEvent) (grou
 -- a group gave each object that it made, and no batch to come uses what it gave
 pub record LeavesNothing (s : Link) : Type 0 where
   pub none_lost : (id : ℕ) → IsSome (s.kinds id) → IsSome (s.given id)
-  pub given : (id index : ℕ) (uses : List QueueSerial) → s.given id ≡ Some uses → number_of uses index ≤ queue.last_number (batches_of s.mine) index
+  pub given : (id index : ℕ) (uses : List QueueSerial) → s.given id ≡ Some uses →
+      number_of uses index ≤ queue.last_number (batches_of s.mine) index
 
 -- no call on the device failed, no cleanup was cut off, and each group left nothing
 pub record AreClosed (history : List BackEvent) : Type 0 where

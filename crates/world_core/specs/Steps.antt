@@ -61,7 +61,8 @@ IsStep journal old new Submit Done = IsAtBack old new × Submits old.back.histor
 IsStep journal old new Submit Nothing = IsAtBack old new × Submits old.back.history new.back.history step.Nothing
 IsStep journal old new Submit NotReady = ⊥
 IsStep journal old new Submit Ended = ⊥
-IsStep journal old new Turn Done = IsAtBack old new × ((batch : ℕ) × (node : ℕ) × Turns old.back.history new.back.history (turned.Ran batch node))
+IsStep journal old new Turn Done = IsAtBack old new ×
+    ((batch : ℕ) × (node : ℕ) × Turns old.back.history new.back.history (turned.Ran batch node))
 IsStep journal old new Turn Nothing = IsAtBack old new × Turns old.back.history new.back.history turned.Idle
 IsStep journal old new Turn NotReady = ⊥
 IsStep journal old new Turn Ended = ⊥

@@ -62,10 +62,7 @@ pub(crate) fn retire_next<D: Device>(back: &mut Back<D>) -> Stepped
 }
 
 /// Destroys what these completed numbers cover.
-pub(crate) fn clean_next<D: Device>(
-    back: &mut Back<D>,
-    read: &[u64; 64],
-) -> Result<Stepped, Stop>
+pub(crate) fn clean_next<D: Device>(back: &mut Back<D>, read: &[u64; 64]) -> Result<Stepped, Stop>
     requires { WereRead back.old.history read.now }
     ensures ok { IfOk result (λ stepped. HasCleaned D.journal back.old back.new read.now stepped) }
     ensures well { OnOk result (StaysWell back.old.history back.new.history) }

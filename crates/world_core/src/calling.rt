@@ -10,7 +10,9 @@ ghost use Rattle.world_core.specs.Steps.{IsStep, HasFailed};
 ghost use Rattle.world_core.specs.Inside.{Keeps, MayAsk, HasAsked, HasBroken, world_of, histories_of, follows};
 
 use crate::Stepped;
-use back_core::{Direct, backs_keep_going, cleanups_stay_whole, groups_are_apart, what_a_group_sees};
+use back_core::{
+    Direct, backs_keep_going, cleanups_stay_whole, groups_are_apart, what_a_group_sees,
+};
 use front_core::{Front, dues_grow, fronts_go_on_standing};
 use play_model::plays_go_on;
 use trace_text::{Line, ThreadPlan};
@@ -40,7 +42,8 @@ pub(crate) fn call_next<D: Device>(
     requires keeps { Keeps (map plan threads.now) done.old.items answered.old.items fronts.old.items link.old.back.history true }
     requires thread { thread < length threads.now }
     ensures keeps { Keeps (map plan threads.now) done.new.items answered.new.items fronts.new.items link.new.back.history (is_ok result) }
-    ensures ok { IfOk result (λ stepped. IsStep D.journal (world_of (map plan threads.now) done.old.items fronts.old.items link.old.back true)
+    ensures ok { IfOk result
+        (λ stepped. IsStep D.journal (world_of (map plan threads.now) done.old.items fronts.old.items link.old.back true)
         (world_of (map plan threads.now) done.new.items fronts.new.items link.new.back true) (event.Call thread) stepped) }
     ensures done { OnErr result (done.new.items ≡ done.old.items) }
     ensures histories { OnErr result (histories_of fronts.new.items ≡ histories_of fronts.old.items) }
@@ -79,7 +82,8 @@ fn ask<D: Device>(
     requires may { (front : FrontModel) → slice_get fronts.old.items group ≡ Some front → MayAsk front link.old.back.history group thread }
     requires built { is_built line.now.call ≡ true }
     requires its_data { HasItsData line.now.call }
-    ensures ok { OnOk result (HasAsked fronts.old.items fronts.new.items link.old.back.history link.new.back.history group thread line.now) }
+    ensures ok { OnOk result
+        (HasAsked fronts.old.items fronts.new.items link.old.back.history link.new.back.history group thread line.now) }
     ensures err { OnErr result (HasBroken fronts.old.items fronts.new.items link.old.back.history link.new.back.history group) }
     ensures cause { HasCause (D.faults link.old.back.device) (D.faults link.new.back.device) result }
 {

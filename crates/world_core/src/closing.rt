@@ -18,13 +18,11 @@ use vk_device::Device;
 use vk_types::Stop;
 
 /// Closes the fronts in the order of their groups, has every batch submitted, executed and retired, and destroys all that waits.
-pub(crate) fn end_all<D: Device>(
-    fronts: &mut Vec<Front>,
-    link: &mut Direct<D>,
-) -> Result<(), Stop>
+pub(crate) fn end_all<D: Device>(fronts: &mut Vec<Front>, link: &mut Direct<D>) -> Result<(), Stop>
     requires eight { length fronts.old.items ≡ 8 }
     requires goes { Goes fronts.old.items link.old.back.history }
-    ensures fronts { (threads : List Plan) → AreFronts threads link.old.back.history fronts.old.items → AreFronts threads link.new.back.history fronts.new.items }
+    ensures fronts { (threads : List Plan) → AreFronts threads link.old.back.history fronts.old.items →
+        AreFronts threads link.new.back.history fronts.new.items }
     ensures histories { histories_of fronts.new.items ≡ histories_of fronts.old.items }
     ensures destroyed { OnOk result ((id : ℕ) → kind_of (journal_of link.new.back.history) id ≡ None) }
     ensures going { OnOk result (IsGoing (Some link.new.back.history)) }
@@ -44,7 +42,8 @@ pub(crate) fn end_all<D: Device>(
 fn close_fronts<D: Device>(fronts: &mut Vec<Front>, link: &mut Direct<D>) -> Result<(), Stop>
     requires eight { length fronts.old.items ≡ 8 }
     requires goes { Goes fronts.old.items link.old.back.history }
-    ensures fronts { (threads : List Plan) → AreFronts threads link.old.back.history fronts.old.items → AreFronts threads link.new.back.history fronts.new.items }
+    ensures fronts { (threads : List Plan) → AreFronts threads link.old.back.history fronts.old.items →
+        AreFronts threads link.new.back.history fronts.new.items }
     ensures histories { histories_of fronts.new.items ≡ histories_of fronts.old.items }
     ensures closed { OnOk result (AreClosed link.new.back.history) }
     ensures written { OnOk result (host_bytes (journal_of link.new.back.history) ≡ host_bytes (journal_of link.old.back.history)) }
@@ -67,7 +66,8 @@ fn close_one<D: Device>(
     group: u8,
 ) -> Result<(), Stop>
     requires low { group < length fronts.old.items }
-    requires stands { (front : FrontModel) → slice_get fronts.old.items group ≡ Some front → FrontStands front (link_of link.old.back.history group) }
+    requires stands { (front : FrontModel) → slice_get fronts.old.items group ≡ Some front →
+        FrontStands front (link_of link.old.back.history group) }
     ensures ok { OnOk result (HasClosedOne fronts.old.items fronts.new.items link.old.back.history link.new.back.history group) }
     ensures err { OnErr result (HasBroken fronts.old.items fronts.new.items link.old.back.history link.new.back.history group) }
     ensures cause { HasCause (D.faults link.old.back.device) (D.faults link.new.back.device) result }

@@ -39,7 +39,8 @@ impl<D: Device> World<D> {
         answer
     }
 
-    /// Ends a world: the histories of the declared groups, in rising order, and the device. What the fronts and the back still have is let go.
+    /// Ends a world: the histories of the declared groups, in rising order, and the device. What the fronts and the back still have is
+    /// let go.
     pub fn finish(self) -> (Vec<GroupHistory>, D)
         ensures histories { AreHistories self.threads (play_of self) result.0.items }
         ensures finished { HasFinished self (D.journal result.1) }
@@ -90,7 +91,8 @@ fn let_all_go<D: Device>(
 // Keeps the history of a group that threads are declared for.
 fn keep(ended: &mut Vec<GroupHistory>, declared: bool, group: u8, entries: Vec<Entry>)
     requires { vec_len ended.old < vec_capacity ended.old }
-    ensures items { ended.new.items ≡ (if declared then ended.old.items ++ record { group = group; entries = entries } ∷ [] else ended.old.items) }
+    ensures items { ended.new.items ≡
+        (if declared then ended.old.items ++ record { group = group; entries = entries } ∷ [] else ended.old.items) }
     ensures capacity { vec_capacity ended.new ≡ vec_capacity ended.old }
 {
     if declared {

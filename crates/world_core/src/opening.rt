@@ -24,11 +24,9 @@ pub(crate) fn no_lines(alloc: Global, threads: &[ThreadPlan]) -> Result<Vec<usiz
 }
 
 /// No line was answered: a place for the number of each.
-pub(crate) fn none_answered(
-    alloc: Global,
-    threads: &[ThreadPlan],
-) -> Result<Vec<bool>, AllocError>
-    ensures { IfOk result (λ answered. (thread place : ℕ) (line : Line) → IsLineOf (map plan threads.now) thread place line → slice_get answered.items line.number ≡ Some false) }
+pub(crate) fn none_answered(alloc: Global, threads: &[ThreadPlan]) -> Result<Vec<bool>, AllocError>
+    ensures { IfOk result (λ answered. (thread place : ℕ) (line : Line) → IsLineOf (map plan threads.now) thread place line →
+        slice_get answered.items line.number ≡ Some false) }
 {
     let mut past = 0;
     for thread in threads {
@@ -52,11 +50,7 @@ fn past_lines(lines: &[Line], past: usize) -> usize
 }
 
 // The threads of a group.
-fn members_of(
-    alloc: Global,
-    threads: &[ThreadPlan],
-    group: u8,
-) -> Result<Vec<u32>, AllocError>
+fn members_of(alloc: Global, threads: &[ThreadPlan], group: u8) -> Result<Vec<u32>, AllocError>
     requires { length threads.now ≤ 16 }
     ensures { IfOk result (λ list. list.items ≡ members (map plan threads.now) group) }
 {

@@ -8,7 +8,9 @@ ghost use Rattle.world_core.specs.World.{IsLawful, IsServed, new_world, play_of}
 
 use crate::calling::may_follow;
 use crate::opening::{abandon_all, no_lines, none_answered, open_fronts};
-use back_core::{Back, Direct};
+use back_core::{
+    Back, Direct, backs_keep_going, cleanups_stay_whole, runs_go_on, what_a_group_sees,
+};
 use front_core::Front;
 use play_model::plays_go_on;
 use reply_text::GroupHistory;
@@ -47,7 +49,9 @@ impl<D: Device> Model for World<D> {
 
     ghost view = { λ w. world_of (map plan w.threads.items) w.done.items w.fronts.items w.link.back w.running };
 
-    ghost invariant = { λ w. Keeps (map plan w.threads.items) w.done.items w.answered.items w.fronts.items w.link.back.history w.running × (w.ended.items ≡ []) × (8 ≤ vec_capacity w.ended) };
+    ghost invariant = { λ w. Keeps
+        (map plan w.threads.items) w.done.items w.answered.items w.fronts.items w.link.back.history w.running × (w.ended.items ≡ []) ×
+        (8 ≤ vec_capacity w.ended) };
 }
 
 impl<D: Device> World<D> {
@@ -60,6 +64,10 @@ impl<D: Device> World<D> {
         ensures faults { IfErr result (λ back. D.faults device ≤ D.faults back) }
     {
         devices_stay_in_order::<D>();
+        what_a_group_sees();
+        cleanups_stay_whole();
+        backs_keep_going();
+        runs_go_on();
         plays_go_on();
         let Trace { threads } = trace;
         let mut ended = Vec::new(alloc);

@@ -3,7 +3,12 @@ use Rattle.world_core.proofs.back_steps.clean_next.Goals as goal
 
 pub returns-in_err-cleanup-clause-leaves : goal.returns-in_err-cleanup-clause-leaves
 returns-in_err-cleanup-clause-leaves g c =
-    leaves_cut (record { own = c.groups_are_apart.ensures.own; completed_rises = c.groups_are_apart.ensures.completed; wrote = c.groups_are_apart.ensures.wrote })
+    leaves_cut (record {
+      own = c.groups_are_apart.ensures.own;
+      completed_rises = c.groups_are_apart.ensures.completed;
+      wrote =
+          c.groups_are_apart.ensures.wrote;
+    })
     (record { others = c.groups_are_apart.ensures.others; rises = c.groups_are_apart.ensures.rises })
     c.args.back.now.history c.cleanup.new.self.history c.args.read.now _ _ c.in_err-cleanup.ensures.err.history
 

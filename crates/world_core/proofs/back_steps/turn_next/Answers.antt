@@ -3,25 +3,50 @@ use Rattle.world_core.proofs.back_steps.turn_next.Goals as goal
 
 pub returns-in_err-turn-clause-leaves : goal.returns-in_err-turn-clause-leaves
 returns-in_err-turn-clause-leaves g c =
-    leaves_stop (record { own = c.groups_are_apart.ensures.own; completed_rises = c.groups_are_apart.ensures.completed; wrote = c.groups_are_apart.ensures.wrote })
+    leaves_stop (record {
+      own = c.groups_are_apart.ensures.own;
+      completed_rises = c.groups_are_apart.ensures.completed;
+      wrote =
+          c.groups_are_apart.ensures.wrote;
+    })
     c.args.back.now.history c.turn.new.self.history _ c.in_err-turn.ensures.err
 
 pub returns-in-Ran-clause-leaves : goal.returns-in-Ran-clause-leaves
 returns-in-Ran-clause-leaves g c =
-    leaves_batches (record { own = c.groups_are_apart.ensures.own; completed_rises = c.groups_are_apart.ensures.completed; wrote = c.groups_are_apart.ensures.wrote })
+    leaves_batches (record {
+      own = c.groups_are_apart.ensures.own;
+      completed_rises = c.groups_are_apart.ensures.completed;
+      wrote =
+          c.groups_are_apart.ensures.wrote;
+    })
     c.args.back.now.history c.turn.new.self.history (has_turned c.args.back.now.history c.turn.new.self.history _ c.in_ok-turn.ensures.ok)
 
 pub returns-in-Idle-clause-leaves : goal.returns-in-Idle-clause-leaves
 returns-in-Idle-clause-leaves g c =
-    leaves_batches (record { own = c.groups_are_apart.ensures.own; completed_rises = c.groups_are_apart.ensures.completed; wrote = c.groups_are_apart.ensures.wrote })
+    leaves_batches (record {
+      own = c.groups_are_apart.ensures.own;
+      completed_rises = c.groups_are_apart.ensures.completed;
+      wrote =
+          c.groups_are_apart.ensures.wrote;
+    })
     c.args.back.now.history c.turn.new.self.history (has_turned c.args.back.now.history c.turn.new.self.history _ c.in_ok-turn.ensures.ok)
 
 pub returns-in-Ran-clause-well : goal.returns-in-Ran-clause-well
 returns-in-Ran-clause-well g c =
-    well_batches (record { going = c.backs_keep_going.ensures.batches; whole = c.cleanups_stay_whole.ensures.batches; write = c.backs_keep_going.ensures.batches_write })
+    well_batches (record {
+      going = c.backs_keep_going.ensures.batches;
+      whole = c.cleanups_stay_whole.ensures.batches;
+      write =
+          c.backs_keep_going.ensures.batches_write;
+    })
     c.args.back.now.history c.turn.new.self.history (has_turned c.args.back.now.history c.turn.new.self.history _ c.in_ok-turn.ensures.ok)
 
 pub returns-in-Idle-clause-well : goal.returns-in-Idle-clause-well
 returns-in-Idle-clause-well g c =
-    well_batches (record { going = c.backs_keep_going.ensures.batches; whole = c.cleanups_stay_whole.ensures.batches; write = c.backs_keep_going.ensures.batches_write })
+    well_batches (record {
+      going = c.backs_keep_going.ensures.batches;
+      whole = c.cleanups_stay_whole.ensures.batches;
+      write =
+          c.backs_keep_going.ensures.batches_write;
+    })
     c.args.back.now.history c.turn.new.self.history (has_turned c.args.back.now.history c.turn.new.self.history _ c.in_ok-turn.ensures.ok)

@@ -17,38 +17,58 @@ close_one-requires-clause-stands g c = λ front at. c.loop-group.invariant.closi
 pub loop-group-preserved : goal.loop-group-preserved
 loop-group-preserved g c = record {
   closing = closing_more (record {
-      apart = record { own = c.groups_are_apart.ensures.own; completed_rises = c.groups_are_apart.ensures.completed; wrote = c.groups_are_apart.ensures.wrote };
-      stays = c.fronts_go_on_standing.ensures;
-      whole = c.cleanups_stay_whole.ensures.calls;
-      group = c.what_a_group_sees.ensures.group;
-    }) c.args.fronts.now.items c.loop-group.fronts.items c.close_one.new.fronts.items c.args.link.now.back.history c.loop-group.link.back.history
-      c.close_one.new.link.back.history c.loop-group.group c.loop-group.invariant.closing (omega (arith, c.loop-group-test.true)) c.in_ok-close_one.ensures.ok;
+    apart = record {
+      own = c.groups_are_apart.ensures.own;
+      completed_rises = c.groups_are_apart.ensures.completed;
+      wrote =
+          c.groups_are_apart.ensures.wrote;
+    };
+    stays = c.fronts_go_on_standing.ensures;
+    whole = c.cleanups_stay_whole.ensures.calls;
+    group = c.what_a_group_sees.ensures.group;
+  }) c.args.fronts.now.items c.loop-group.fronts.items c.close_one.new.fronts.items c.args.link.now.back.history
+      c.loop-group.link.back.history
+      c.close_one.new.link.back.history c.loop-group.group c.loop-group.invariant.closing
+      (omega (arith, c.loop-group-test.true)) c.in_ok-close_one.ensures.ok;
   later = let before = c.loop-group.invariant.later in let now = c.close_one.ensures.cause.later in omega (arith, before, now);
 }
 
 pub returns-in_err-close_one-clause-fronts : goal.returns-in_err-close_one-clause-fronts
 returns-in_err-close_one-clause-fronts g c = λ threads are.
     broken_are (record {
-      apart = record { own = c.groups_are_apart.ensures.own; completed_rises = c.groups_are_apart.ensures.completed; wrote = c.groups_are_apart.ensures.wrote };
+      apart = record {
+        own = c.groups_are_apart.ensures.own;
+        completed_rises = c.groups_are_apart.ensures.completed;
+        wrote =
+            c.groups_are_apart.ensures.wrote;
+      };
       stays = c.fronts_go_on_standing.ensures;
       whole = c.cleanups_stay_whole.ensures.calls;
       group = c.what_a_group_sees.ensures.group;
-    }) c.args.fronts.now.items c.loop-group.fronts.items c.close_one.new.fronts.items c.args.link.now.back.history c.loop-group.link.back.history
+    }) c.args.fronts.now.items c.loop-group.fronts.items c.close_one.new.fronts.items c.args.link.now.back.history
+    c.loop-group.link.back.history
     c.close_one.new.link.back.history c.loop-group.group c.loop-group.invariant.closing threads c.in_err-close_one.ensures.err are
 
 pub returns-in_err-close_one-clause-histories : goal.returns-in_err-close_one-clause-histories
 returns-in_err-close_one-clause-histories g c =
     broken_stays (record {
-      apart = record { own = c.groups_are_apart.ensures.own; completed_rises = c.groups_are_apart.ensures.completed; wrote = c.groups_are_apart.ensures.wrote };
+      apart = record {
+        own = c.groups_are_apart.ensures.own;
+        completed_rises = c.groups_are_apart.ensures.completed;
+        wrote =
+            c.groups_are_apart.ensures.wrote;
+      };
       stays = c.fronts_go_on_standing.ensures;
       whole = c.cleanups_stay_whole.ensures.calls;
       group = c.what_a_group_sees.ensures.group;
-    }) c.args.fronts.now.items c.loop-group.fronts.items c.close_one.new.fronts.items c.args.link.now.back.history c.loop-group.link.back.history
+    }) c.args.fronts.now.items c.loop-group.fronts.items c.close_one.new.fronts.items c.args.link.now.back.history
+    c.loop-group.link.back.history
     c.close_one.new.link.back.history c.loop-group.group c.loop-group.invariant.closing c.in_err-close_one.ensures.err
 
 pub returns-clause-closed : goal.returns-clause-closed
 returns-clause-closed g c =
-    closing_ends c.args.fronts.now.items c.loop-group.fronts.items c.args.link.now.back.history c.loop-group.link.back.history c.loop-group.group (omega (arith, c.loop-group-test.false))
+    closing_ends c.args.fronts.now.items c.loop-group.fronts.items c.args.link.now.back.history c.loop-group.link.back.history
+    c.loop-group.group (omega (arith, c.loop-group-test.false))
     c.loop-group.invariant.closing
 
 pub returns-clause-fronts : goal.returns-clause-fronts

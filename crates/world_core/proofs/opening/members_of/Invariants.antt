@@ -6,5 +6,6 @@ use Rattle.world_core.proofs.opening.members_of.Given as goal
 abbrev pub invariant-loop-thread : goal.invariant-loop-thread
 invariant-loop-thread l = record {
   number : l.number ≡ l.thread-index;
-  members : l.list.items ++ members_from l.thread-index (map plan (drop l.thread-index l.threads)) l.group ≡ members (map plan l.threads) l.group;
+  members : l.list.items ++ members_from l.thread-index (map plan (drop l.thread-index l.threads)) l.group ≡ members
+      (map plan l.threads) l.group;
 }

@@ -5,4 +5,5 @@ use Rattle.trace_text.specs.Orders.{IsLineOf}
 use Rattle.world_core.proofs.opening.none_answered.Given as goal
 
 abbrev pub invariant-loop-thread : goal.invariant-loop-thread
-invariant-loop-thread l = (thread place : ℕ) (line : Line) → thread < l.thread-index → IsLineOf (map plan l.threads) thread place line → line.number < l.past
+invariant-loop-thread l = (thread place : ℕ) (line : Line) → thread < l.thread-index → IsLineOf (map plan l.threads) thread place line →
+    line.number < l.past

@@ -9,33 +9,62 @@ use Rattle.world_core.proofs.Worlds.{clean_step, clean_halt, halted_back, runnin
 use Rattle.world_core.proofs.world.World.cleanup.Goals as goal
 
 pub clean_next-answer-requires : goal.clean_next-answer-requires
-clean_next-answer-requires g c = read_step g.D.Device.journal (map plan c.self.inside.threads.items) c.self.inside.done.items c.self.inside.fronts.items c.self.inside.link.back c.self.inside.link.back c.self.inside.running c.args.self.now c.self.view_is c.args.read.now c.requires.may
+clean_next-answer-requires g c = read_step g.D.Device.journal
+    (map plan c.self.inside.threads.items) c.self.inside.done.items c.self.inside.fronts.items c.self.inside.link.back
+    c.self.inside.link.back c.self.inside.running c.args.self.now c.self.view_is c.args.read.now c.requires.may
 
 pub invariant_of-self : goal.invariant_of-self
 invariant_of-self g c = (
-  subst (λ (b : Bool). Keeps (map plan c.self.inside.threads.items) c.self.inside.done.items c.self.inside.answered.items c.self.inside.fronts.items c.clean_next-answer.new.back.history b) (sym c.is_ok-self-inside.ensures.value)
-      (keeps_step (map plan c.self.inside.threads.items) c.self.inside.done.items c.self.inside.answered.items c.self.inside.fronts.items c.self.inside.link.back.history c.clean_next-answer.new.back.history c.clean_next-answer.result
+  subst (λ (b : Bool). Keeps
+      (map plan c.self.inside.threads.items) c.self.inside.done.items c.self.inside.answered.items c.self.inside.fronts.items
+      c.clean_next-answer.new.back.history b) (sym c.is_ok-self-inside.ensures.value)
+      (keeps_step (map plan c.self.inside.threads.items) c.self.inside.done.items c.self.inside.answered.items c.self.inside.fronts.items
+      c.self.inside.link.back.history c.clean_next-answer.new.back.history c.clean_next-answer.result
       c.fronts_go_on_standing.ensures c.clean_next-answer.ensures.leaves c.clean_next-answer.ensures.well
-      (subst (λ (b : Bool). Keeps (map plan c.self.inside.threads.items) c.self.inside.done.items c.self.inside.answered.items c.self.inside.fronts.items c.self.inside.link.back.history b)
-      (running_on g.D.Device.journal (map plan c.self.inside.threads.items) c.self.inside.done.items c.self.inside.fronts.items c.self.inside.link.back c.clean_next-answer.new.back c.self.inside.running c.args.self.now c.self.view_is c.requires.running) c.self.invariant.0)),
+      (subst (λ (b : Bool). Keeps
+      (map plan c.self.inside.threads.items) c.self.inside.done.items c.self.inside.answered.items c.self.inside.fronts.items
+      c.self.inside.link.back.history b)
+      (running_on g.D.Device.journal
+      (map plan c.self.inside.threads.items) c.self.inside.done.items c.self.inside.fronts.items c.self.inside.link.back
+      c.clean_next-answer.new.back c.self.inside.running c.args.self.now c.self.view_is c.requires.running) c.self.invariant.0)),
   c.self.invariant.1,
   c.self.invariant.2,
 )
 
 pub returns-clause-ok : goal.returns-clause-ok
 returns-clause-ok g c =
-    subst (λ (b : Bool). IfOk c.clean_next-answer.result (λ s. IsStep g.D.Device.journal c.args.self.now (world_of (map plan c.self.inside.threads.items) c.self.inside.done.items c.self.inside.fronts.items c.clean_next-answer.new.back b) (event.Cleanup c.args.read.now) s)) (sym c.is_ok-self-inside.ensures.value)
-    (clean_step g.D.Device.journal (map plan c.self.inside.threads.items) c.self.inside.done.items c.self.inside.fronts.items c.self.inside.link.back c.clean_next-answer.new.back c.self.inside.running c.args.self.now c.self.view_is c.args.read.now c.clean_next-answer.result c.clean_next-answer.ensures.ok)
+    subst (λ (b : Bool). IfOk c.clean_next-answer.result
+    (λ s. IsStep g.D.Device.journal c.args.self.now
+    (world_of (map plan c.self.inside.threads.items) c.self.inside.done.items c.self.inside.fronts.items c.clean_next-answer.new.back
+    b) (event.Cleanup c.args.read.now) s)) (sym c.is_ok-self-inside.ensures.value)
+    (clean_step g.D.Device.journal
+    (map plan c.self.inside.threads.items) c.self.inside.done.items c.self.inside.fronts.items c.self.inside.link.back
+    c.clean_next-answer.new.back c.self.inside.running c.args.self.now c.self.view_is c.args.read.now c.clean_next-answer.result
+    c.clean_next-answer.ensures.ok)
 
 pub returns-clause-err : goal.returns-clause-err
 returns-clause-err g c =
-    subst (λ (b : Bool). OnErr c.clean_next-answer.result (HasHalted c.args.self.now (world_of (map plan c.self.inside.threads.items) c.self.inside.done.items c.self.inside.fronts.items c.clean_next-answer.new.back b))) (sym c.is_ok-self-inside.ensures.value)
-    (halted_back g.D.Device.journal (map plan c.self.inside.threads.items) c.self.inside.done.items c.self.inside.fronts.items c.self.inside.link.back c.clean_next-answer.new.back c.self.inside.running c.args.self.now c.self.view_is c.clean_next-answer.result)
+    subst (λ (b : Bool). OnErr c.clean_next-answer.result
+    (HasHalted c.args.self.now
+    (world_of (map plan c.self.inside.threads.items) c.self.inside.done.items c.self.inside.fronts.items c.clean_next-answer.new.back
+    b))) (sym c.is_ok-self-inside.ensures.value)
+    (halted_back g.D.Device.journal
+    (map plan c.self.inside.threads.items) c.self.inside.done.items c.self.inside.fronts.items c.self.inside.link.back
+    c.clean_next-answer.new.back c.self.inside.running c.args.self.now c.self.view_is c.clean_next-answer.result)
 
 pub returns-clause-halt : goal.returns-clause-halt
 returns-clause-halt g c =
-    subst (λ (b : Bool). IfErr c.clean_next-answer.result (λ stop. IsHalt g.D.Device.journal c.args.self.now (world_of (map plan c.self.inside.threads.items) c.self.inside.done.items c.self.inside.fronts.items c.clean_next-answer.new.back b) (event.Cleanup c.args.read.now) stop)) (sym c.is_ok-self-inside.ensures.value)
-    (clean_halt g.D.Device.journal (map plan c.self.inside.threads.items) c.self.inside.done.items c.self.inside.fronts.items c.self.inside.link.back c.clean_next-answer.new.back c.self.inside.running c.args.self.now c.self.view_is c.args.read.now c.clean_next-answer.result c.clean_next-answer.ensures.err)
+    subst (λ (b : Bool). IfErr c.clean_next-answer.result
+    (λ stop. IsHalt g.D.Device.journal c.args.self.now
+    (world_of (map plan c.self.inside.threads.items) c.self.inside.done.items c.self.inside.fronts.items c.clean_next-answer.new.back
+    b) (event.Cleanup c.args.read.now) stop)) (sym c.is_ok-self-inside.ensures.value)
+    (clean_halt g.D.Device.journal
+    (map plan c.self.inside.threads.items) c.self.inside.done.items c.self.inside.fronts.items c.self.inside.link.back
+    c.clean_next-answer.new.back c.self.inside.running c.args.self.now c.self.view_is c.args.read.now c.clean_next-answer.result
+    c.clean_next-answer.ensures.err)
 
 pub returns-clause-cause : goal.returns-clause-cause
-returns-clause-cause g c = cause_step g.D.Device.journal (map plan c.self.inside.threads.items) c.self.inside.done.items c.self.inside.fronts.items c.self.inside.link.back c.clean_next-answer.new.back c.self.inside.running c.args.self.now c.self.view_is g.D.Device.faults (g.D.Device.faults c.clean_next-answer.new.back.device) c.clean_next-answer.result c.clean_next-answer.ensures.cause
+returns-clause-cause g c = cause_step g.D.Device.journal
+    (map plan c.self.inside.threads.items) c.self.inside.done.items c.self.inside.fronts.items c.self.inside.link.back
+    c.clean_next-answer.new.back c.self.inside.running c.args.self.now c.self.view_is g.D.Device.faults
+    (g.D.Device.faults c.clean_next-answer.new.back.device) c.clean_next-answer.result c.clean_next-answer.ensures.cause
