@@ -1,7 +1,8 @@
 -- What a world begins with.
 use Rattle.std.proofs.Common.{◌≡◌, ◌≢◌, ℕ, suc, zero, ◌+◌, ◌-◌, ◌≤◌, ◌<◌, Bool, true, false, List, [], ◌∷◌, ◌++◌, length, get_or, map}
 use Rattle.std.proofs.Common.{take, replicate, Some, None, refl, sym, ap, ◌∙◌, subst, arith, eq-eqb}
-use Rattle.std.specs.Prelude.{slice_get, Option, unwrap_or}
+use Rattle.std.specs.Prelude.{slice_get, Option, unwrap_or, Result, Ok, Err, OnOk, is_err}
+use Rattle.back_core.specs.Back.{BackModel}
 use Rattle.std.specs.Option.{option_map}
 use Rattle.std.proofs.Math.Dec.{eqb}
 use Rattle.std.proofs.Math.Path.{fun_ext}
@@ -24,8 +25,8 @@ use Rattle.front_model.specs.Stands.{Owns}
 use Rattle.front_moves.specs.Core.{face}
 use Rattle.front_core.specs.Front.{FrontModel, FrontStands, IsNewFront}
 use Rattle.play_model.specs.Plays.{Play, HasPlayed, none_done, members, opening_play, is_answered}
-use Rattle.world_core.specs.World.{IsServed, history_at, play_at, group_numbers, due_in}
-use Rattle.world_core.specs.Inside.{AreNew, OwnTheirs, AreFronts, Goes, Keeps, histories_of, played_of}
+use Rattle.world_core.specs.World.{WorldModel, new_world, IsServed, history_at, play_at, group_numbers, due_in}
+use Rattle.world_core.specs.Inside.{AreNew, OwnTheirs, AreFronts, Goes, Keeps, histories_of, played_of, world_of}
 use Rattle.world_core.proofs.Lists.{read_at}
 use Rattle.world_core.proofs.Fronts.{stands_own}
 
@@ -215,3 +216,21 @@ module _ (links : NewLinks) (whole : CleansWhole []) (going : IsGoing (Some []))
   begins threads done answered fronts h empty served none unanswered eight new =
       subst (λ (i : List BackEvent). Keeps threads done answered fronts i true) (sym empty)
       (begins_empty threads done answered fronts served none unanswered eight new)
+
+-- the world is the one that a trace begins with
+
+abbrev world_with : {D : Type 0} → List Plan → List ℕ → List (List Entry) → BackModel D → WorldModel D
+world_with threads done histories back = record { threads = threads; done = done; histories = histories; back = back; running = true }
+
+pub new_world_is : {D : Type 0} (threads : List Plan) (done : List ℕ) (fronts : List FrontModel) (back : BackModel D) (device : D) →
+    done ≡ none_done threads → length fronts ≡ 8 → AreNew threads fronts → back ≡ record { device = device; history = [] } →
+    world_of threads done fronts back true ≡ new_world threads device
+new_world_is {D} threads done fronts back device none eight new is =
+    ap (λ (d : List ℕ). world_of threads d fronts back true) none
+    ∙ ap (λ (b : BackModel D). world_of threads (none_done threads) fronts b true) is
+    ∙ ap (λ (hs : List (List Entry)). world_with threads (none_done threads) hs (record { device = device; history = [] }))
+    (new_histories threads fronts eight new)
+
+pub ok_of : {A E : Type 0} {P : Type 0} (r : Result A E) → is_err r ≡ false → OnOk r P → P
+ok_of (Ok a) well p = p
+ok_of (Err e) well p = absurd (false≢true (sym well))
