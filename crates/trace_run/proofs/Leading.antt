@@ -17,7 +17,7 @@ use Rattle.world_core.specs.Steps.{HasHalted}
 use Rattle.world_core.specs.Ends.{HasClosed, HasFinished}
 use Rattle.schedule.specs.Moves.{Move, schedule, callers_of_group}
 use Rattle.schedule.specs.Made.{AreMade, AreCutOff}
-use Rattle.trace_run.specs.Runs.{AreReplies, RanAll}
+use Rattle.trace_run.specs.Runs.{AreReplies, AnswersFirst, RanAll}
 use Rattle.trace_run.specs.Led.{AreCalls, WasLed, WasLedOn}
 use Rattle.trace_run.specs.Once.{tail_of}
 
@@ -26,6 +26,9 @@ use Rattle.trace_run.specs.Once.{tail_of}
 pub on_err : {T E P : Type 0} (r : Result T E) → P → OnErr r P
 on_err (Ok v) p = tt
 on_err (Err e) p = p
+
+pub of_err : {T E P : Type 0} (r : Result T E) (e : E) → r ≡ Err e → OnErr r P → P
+of_err {P = P} r e is p = subst (λ (x : Result _ _). OnErr x P) is p
 
 -- no group of a new world answered
 nothing_at : (groups : List ℕ) (group : ℕ) → history_at (map (λ (n : ℕ). []) groups) group ≡ []
@@ -119,6 +122,11 @@ module _ (D : Type 0) (threads first : List Plan) (seed : ℕ) (w : WorldModel D
         };
         uploads = subst (λ (n : ℕ). n ≤ due_in threads (play_of w)) (sym finished.written) led.uploads;
       }
+
+  pub answers_first : WasLedOn first seed w → AnswersFirst threads seed groups
+  answers_first was =
+      let led : WasLedOn threads seed w = subst (λ (t : List Plan). WasLedOn t seed w) same was in
+      record { made = led.made; rest = led.rest; schedule_is = led.schedule_is; replies = replies led.made led.threads_are led.calls }
 
 -- the tail of the replies, by what was read
 pub tail_same : (summary : Bool) (groups seen : List GroupHistory) (journal read : List Logged) (tail : Tail) →

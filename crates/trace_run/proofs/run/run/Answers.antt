@@ -1,8 +1,8 @@
-use Rattle.std.proofs.Common.{map, ap}
+use Rattle.std.proofs.Common.{map, ap, rules}
 use Rattle.trace_text.specs.Reading.{plan}
 use Rattle.world_core.specs.World.{WorldModel}
 use Rattle.trace_run.proofs.Served.{are_served}
-use Rattle.trace_run.proofs.Leading.{opened, ran_all, tail_same}
+use Rattle.trace_run.proofs.Leading.{of_err, opened, ran_all, answers_first, tail_same}
 use Rattle.trace_run.proofs.run.run.Goals as goal
 
 pub new-requires-clause-served : goal.new-requires-clause-served
@@ -20,4 +20,13 @@ returns-in-Ok-tail-clause-said g c = (
       (g.D.Device.journal c.finish-groups.result.1) c.in-Ok-answer.ensures.whole c.finish-groups.ensures.finished,
   tail_same c.args.summary c.finish-groups.result.0.items c.deref.result.now (g.D.Device.journal c.finish-groups.result.1)
       c.journal.result.now c.in-Ok-tail.tail c.in-Ok-tail.ensures c.deref.ensures.value c.journal.ensures,
+)
+
+pub returns-in-Err-Lost-clause-said : goal.returns-in-Err-Lost-clause-said
+returns-in-Err-Lost-clause-said g c = (
+  answers_first _ (map plan c.args.trace.threads.items) c.in-Ok.world.threads c.args.seed c.play_and_close-answer.new.world
+      c.finish-groups.result.0.items (ap (λ (w : WorldModel _). w.threads) c.in-Ok.ensures.ok) c.is_lawful.ensures.played
+      c.finish-groups.ensures.histories
+      (of_err c.play_and_close-answer.result c.in-Err-Lost.field-0 c.in-Err-Lost.is c.play_and_close-answer.ensures.part),
+  search rules,
 )
