@@ -152,8 +152,16 @@ fn a_device_that_is_lost_ends_all_groups(rt: HostRuntime) -> Result<(), Fail> {
                 is_whole = true;
                 break;
             }
-            assert!(rt; status == Status::DeviceLost, "{} after {passes}", row.shows);
-            assert!(rt; sink.bytes().ends_with("lost\n".as_bytes()), "{} after {passes}", row.shows);
+            assert!(rt;
+                status == Status::DeviceLost,
+                "{} after {passes}",
+                row.shows
+            );
+            assert!(rt;
+                sink.bytes().ends_with("lost\n".as_bytes()),
+                "{} after {passes}",
+                row.shows
+            );
         }
         assert!(rt; is_whole, "{}", row.shows);
     }
