@@ -2,10 +2,9 @@
 ghost use Rattle.std.specs.Prelude.{◌≡◌, ◌==◌, ◌+◌, ◌<◌, ◌≤◌, [], ◌∷◌, ◌++◌, length, IfNone, IfSome, OnOk};
 ghost use Rattle.garbage.specs.Collecting.{AreKept, TakesOut};
 
-use crate::turning::{next_covered, put_back, seek};
+use crate::turning::{new_turning, next_covered, put_back, seek};
 use crate::{Garbage, Turning};
 use std::alloc::{AllocError, Global};
-use std::collections::VecDeque;
 use std::marker::Model;
 
 /// Entries that wait for the device. Contracts see the list of them and the spare room, which is the count of entries
@@ -18,13 +17,13 @@ pub struct GarbageList {
 }
 
 impl Model for GarbageList {
-    ghost use Rattle.garbage.specs.Steps.{GarbageAndRoom, in_order, HasRoom};
+    ghost use Rattle.garbage.specs.Steps.{GarbageAndRoom, in_order, HasRoom, WaitFor};
 
     ghost Value = { GarbageAndRoom };
 
     ghost view = { λ g. record { items = in_order g.turning; room = g.promised } };
 
-    ghost invariant = { λ g. HasRoom g.turning g.promised };
+    ghost invariant = { λ g. HasRoom g.turning g.promised × WaitFor g.turning.next g.turning.passed.items };
 }
 
 impl GarbageList {
@@ -33,10 +32,7 @@ impl GarbageList {
         ensures { result.items ≡ [] }
     {
         GarbageList {
-            turning: Turning {
-                passed: VecDeque::new(alloc),
-                coming: VecDeque::new(alloc),
-            },
+            turning: new_turning(alloc),
             promised: 0,
         }
     }
@@ -68,14 +64,15 @@ impl GarbageList {
 
     /// Takes out the first covered entry at or after the place `from`, and gives its place; `None` exactly where no entry
     /// from there on is covered. The entries behind it move up by one place, so that a cleanup goes on from the place that
-    /// it was given. Such a cleanup looks at each entry once.
+    /// it was given. Such a cleanup looks at each entry at most once; it looks only at the entries that were put since the last
+    /// one, where no number that was read has reached what another entry waits for.
     pub fn take_covered(&mut self, from: usize, read: &[u64; 64]) -> Option<(usize, Garbage)>
         ensures some { IfSome result (λ found. TakesOut self.old.items self.new.items from read.now found.0 found.1) }
         ensures none { IfNone result (AreKept read.now self.old.items from (length self.old.items)) }
         ensures unchanged { IfNone result (self.new.items ≡ self.old.items) }
         ensures room { self.old.room ≤ self.new.room }
     {
-        seek(&mut self.turning, from);
+        seek(&mut self.turning, from, read);
         next_covered(&mut self.turning, read)
     }
 
@@ -107,7 +104,11 @@ impl GarbageList {
             turning,
             promised: _,
         } = self;
-        let Turning { passed, coming } = turning;
+        let Turning {
+            passed,
+            coming,
+            next: _,
+        } = turning;
         passed.destroy_empty();
         coming.destroy_empty();
     }

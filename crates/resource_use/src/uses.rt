@@ -1,5 +1,5 @@
 // For each index the number of the last batch that uses a resource.
-ghost use Rattle.std.specs.Prelude.{◌≡◌, ◌==◌, ℕ, max, cond, [], IfOk, OnOk, OnErr, ◌∷◌, ◌++◌, IsTrue, IfNone, IfSome, ◌↔◌, ◌<◌, true, false, length, slice_index_or};
+ghost use Rattle.std.specs.Prelude.{◌≡◌, ◌==◌, ℕ, max, cond, [], IfOk, OnOk, OnErr, ◌∷◌, ◌++◌, IsTrue, IfNone, IfSome, ◌↔◌, ◌<◌, true, false, length, List, nat_le, slice_index, slice_index_or};
 ghost use Rattle.std.specs.Bool.{OnTrue, OnFalse};
 ghost use Rattle.vk_types.specs.declared.batches.QueueSerial.{QueueSerial};
 ghost use Rattle.resource_use.specs.Uses.{number_of, noted, merged, Covers, are_covered, AreDistinct};
@@ -74,6 +74,16 @@ impl ResourceUse {
             .all(|one| one.is_covered_by(read))
     }
 
+    /// The first use whose number is greater than the number that was read for its index; `None` exactly where there is none.
+    /// Until that number is read the uses are not covered, whatever is read for the other indexes.
+    pub fn waits_for(&self, read: &[u64; 64]) -> Option<QueueSerial>
+        ensures none { IfNone result (are_covered read.now self.now ≡ true) }
+        ensures beyond { IfSome result (λ one. slice_index read.now one.index < one.number) }
+        ensures until { IfSome result (λ one. (later : List ℕ) → slice_index later one.index < one.number → are_covered later self.now ≡ false) }
+    {
+        first_beyond(self.serials.as_slice(), read)
+    }
+
     /// The number of an index, 0 where the index is absent.
     pub fn number_of(&self, index: SerialIndex) -> u64
         ensures { result ≡ number_of self.now index }
@@ -133,6 +143,27 @@ fn number_in(uses: &[Use], index: SerialIndex) -> u64
         Some(at) => uses[at].serial().number,
         None => 0,
     }
+}
+
+// The first use whose number is greater than the number that was read for its index.
+fn first_beyond(uses: &[Use], read: &[u64; 64]) -> Option<QueueSerial>
+    ensures none { IfNone result (are_covered read.now uses.now ≡ true) }
+    ensures beyond { IfSome result (λ one. slice_index read.now one.index < one.number) }
+    ensures until { IfSome result (λ one. (later : List ℕ) → slice_index later one.index < one.number → are_covered later uses.now ≡ false) }
+{
+    match place_beyond(uses, read) {
+        Some(at) => Some(uses[at].serial()),
+        None => None,
+    }
+}
+
+// The first place of a use whose number is greater than the number that was read for its index.
+fn place_beyond(uses: &[Use], read: &[u64; 64]) -> Option<usize>
+    ensures none { IfNone result ((k : ℕ) (d : QueueSerial) → k < length uses.now → nat_le (slice_index_or uses.now k d).number (slice_index read.now (slice_index_or uses.now k d).index) ≡ true) }
+    ensures within { IfSome result (λ at. at < length uses.now) }
+    ensures found { IfSome result (λ at. (d : QueueSerial) → slice_index read.now (slice_index_or uses.now at d).index < (slice_index_or uses.now at d).number) }
+{
+    uses.iter().position(|one| !one.is_covered_by(read))
 }
 
 // The first place of a use of the index.
