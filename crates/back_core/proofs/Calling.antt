@@ -12,6 +12,7 @@ use Rattle.vk_types.specs.declared.batches.QueueSerial.{QueueSerial}
 use Rattle.back_core.specs.declared.back_event.BackEvent.{BackEvent}
 use Rattle.back_core.specs.declared.back_event.BackEvent.TheVariants as event
 use Rattle.back_core.specs.declared.ending.Ending.{Ending}
+use Rattle.back_core.specs.Own.{next_number}
 use Rattle.back_core.specs.Link.{enqueued}
 use Rattle.back_core.specs.Answers.{Learns}
 use Rattle.back_core.specs.History.{link_of}
@@ -72,13 +73,13 @@ fetch_acts r h k g id at bytes ok err = by_one r h k g 0 (λ u. event.Fetched g 
     (λ u. fetch_done (link_of h g) (link_of (h ++ event.Fetched g id at bytes ∷ []) g) (Some h) (Some (h ++ event.Fetched g id at bytes ∷ [])) id.0 at bytes (fetch_then h g id at bytes)
     (on_link h (h ++ event.Fetched g id at bytes ∷ []) g (part_one h g (event.Fetched g id at bytes) (own_event g))) (still_going h (event.Fetched g id at bytes) refl)) (stop_acts h g)
 
-pub enqueue_acts : {A B : Type 0} (r : Result A B) (h k : List BackEvent) (g : ℕ) (batch : Batch) → batch.index / 8 ≡ g →
+pub enqueue_acts : {A B : Type 0} (r : Result A B) (h k : List BackEvent) (g : ℕ) (batch : Batch) → batch.index / 8 ≡ g → batch.number ≡ next_number (link_of h g).mine batch.index →
     link_of (h ++ event.Enqueued batch ∷ []) g ≡ enqueued (link_of h g) batch → OnOk r (k ≡ h ++ event.Enqueued batch ∷ []) → OnErr r (k ≡ h) →
     AtBack (link_of h g) (link_of k g) (Some h) (Some k) 0 false false (λ b. b ≡ batch)
-enqueue_acts (Ok v) h k g batch own then_ ok err = subst (λ l. AtBack (link_of h g) (link_of l g) (Some h) (Some l) 0 false false (λ b. b ≡ batch)) (sym ok)
-    (enqueue_done (λ b. b ≡ batch) (link_of h g) (link_of (h ++ event.Enqueued batch ∷ []) g) (Some h) (Some (h ++ event.Enqueued batch ∷ [])) batch refl then_
+enqueue_acts (Ok v) h k g batch own next then_ ok err = subst (λ l. AtBack (link_of h g) (link_of l g) (Some h) (Some l) 0 false false (λ b. b ≡ batch)) (sym ok)
+    (enqueue_done (λ b. b ≡ batch) (link_of h g) (link_of (h ++ event.Enqueued batch ∷ []) g) (Some h) (Some (h ++ event.Enqueued batch ∷ [])) batch refl next then_
     (on_link h (h ++ event.Enqueued batch ∷ []) g (part_one h g (event.Enqueued batch) (ap not (eq-eqb (batch.index / 8) g own)))) (still_going h (event.Enqueued batch) refl))
-enqueue_acts (Err e) h k g batch own then_ ok err = subst (λ l. AtBack (link_of h g) (link_of l g) (Some h) (Some l) 0 false false (λ b. b ≡ batch)) (sym err)
+enqueue_acts (Err e) h k g batch own next then_ ok err = subst (λ l. AtBack (link_of h g) (link_of l g) (Some h) (Some l) 0 false false (λ b. b ≡ batch)) (sym err)
     (within 0 false false (λ b. b ≡ batch) (omega arith) (λ on. on) (λ on. on) (no_batch (λ b. b ≡ batch))
     (nothing_done (link_of h g) (link_of h g) (Some h) (Some h) refl (on_link h h g (part_none h g)) (λ was. was)))
 

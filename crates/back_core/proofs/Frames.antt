@@ -1,18 +1,19 @@
 -- What calls in turn did at the back is one thing that was done there.
-use Rattle.std.proofs.Common.{◌≡◌, ℕ, ◌+◌, ◌≤◌, ◌==◌, Bool, true, false, List, [], ◌∷◌, ◌++◌, length, refl, sym, ap, ◌∙◌, subst, inl, inr, zero-add, arith}
+use Rattle.std.proofs.Common.{◌≡◌, ℕ, ◌+◌, ◌≤◌, ◌==◌, Bool, true, false, cond, List, [], ◌∷◌, ◌++◌, length, refl, sym, ap, ◌∙◌, subst, inl, inr, zero-add, arith}
 use Rattle.std.specs.Prelude.{◌⊎◌, All, Option, Some, None}
-use Rattle.std.proofs.lemmas.Bool.{cases_eq, cond-true, cond-false, eq-eqb, ne_eqb, false≢true}
+use Rattle.std.proofs.lemmas.Bool.{cases_eq, cond-true, cond-false, eq-eqb, eqb-true, ne_eqb, false≢true}
 use Rattle.std.proofs.lemmas.List.{append-nil, append_assoc}
 use Rattle.std.proofs.lemmas.List.Elements.{All-nil, All-cons, All-append, All-weaker, All-same}
-use Rattle.std.proofs.lemmas.List.Sums.{sum-map, sum_by-append}
+use Rattle.std.proofs.lemmas.List.Sums.{fold-append, sum-map, sum_by-append}
 use Rattle.std.proofs.lemmas.List.Concat.{flat_map-append}
 use Rattle.vk_types.specs.declared.handles.Kind.{Kind}
 use Rattle.vk_types.specs.declared.batches.Batch.{Batch}
 use Rattle.vk_types.specs.declared.batches.QueueSerial.{QueueSerial}
 use Rattle.back_core.specs.declared.back_event.BackEvent.{BackEvent}
-use Rattle.back_core.specs.Own.{Own, HostWrote, Enqueued, HostRead, batch_by, batches_of}
-use Rattle.back_core.specs.Link.{Link, put, created, wrote, enqueued, fetched, gave, abandoned}
-use Rattle.back_core.specs.Answers.{Learns, Completes}
+use Rattle.submit_queue.specs.Histories.{last_number}
+use Rattle.back_core.specs.Own.{Own, HostWrote, Enqueued, HostRead, batch_by, batches_of, next_number}
+use Rattle.back_core.specs.Link.{Asked, Link, put, created, wrote, enqueued, fetched, gave, abandoned}
+use Rattle.back_core.specs.Answers.{Learns, Completes, AskedRises, Loads}
 use Rattle.back_core.specs.Frame.{written_by, uploaded, IsPartOf, GoesOn, IsGoing, NoBatch, AtBack}
 
 -- What happened goes on
@@ -39,18 +40,55 @@ pub uploaded_append : (a b : List Own) → uploaded (a ++ b) ≡ uploaded a + up
 unfolding uploaded
 uploaded_append a b = omega (arith, sum-map written_by (a ++ b), sum_by-append written_by a b, sum-map written_by a, sum-map written_by b)
 
+-- The numbers of batches, and loads
+
+number_then : (xs : List Batch) (b : Batch) (i : ℕ) → last_number (xs ++ b ∷ []) i ≡ cond (b.index == i) b.number (last_number xs i)
+number_then xs b i = fold-append (λ n (a : Batch). cond (a.index == i) a.number n) 0 xs (b ∷ [])
+
+numbers_then : (mine : List Own) (b : Batch) → last_number (batches_of mine) b.index ≤ b.number → (i : ℕ) →
+    last_number (batches_of mine) i ≤ last_number (batches_of (mine ++ Enqueued b ∷ [])) i
+numbers_then mine b low i = rw (flat_map-append batch_by mine (Enqueued b ∷ [])) (rw (number_then (batches_of mine) b i) (by_index (b.index == i) refl))
+  where
+    by_index : (c : Bool) → (b.index == i) ≡ c → last_number (batches_of mine) i ≤ cond c b.number (last_number (batches_of mine) i)
+    by_index true is = subst (λ n. last_number (batches_of mine) n ≤ b.number) (eqb-true b.index i is) low
+    by_index false is = omega arith
+
+-- an item without batches leaves the numbers
+numbers_with : (mine : List Own) (x : Own) → batch_by x ≡ [] → (i : ℕ) → last_number (batches_of mine) i ≤ last_number (batches_of (mine ++ x ∷ [])) i
+numbers_with mine x none i =
+    rw (flat_map-append batch_by mine (x ∷ [])) (rw none (rw (append-nil (batches_of mine)) (omega arith)))
+
+asked_same : (a : Option Asked) → AskedRises a a
+asked_same None = tt
+asked_same (Some a) = omega arith
+
+loads_rise : (a b : Option Asked) (index : ℕ) → Loads a b index → AskedRises a b
+loads_rise None None index loads = tt
+loads_rise None (Some b) index loads = absurd (cc loads)
+loads_rise (Some a) None index loads = loads
+loads_rise (Some a) (Some b) index loads = omega (arith, loads.0)
+
+asked_then : (a b c : Option Asked) → AskedRises a b → AskedRises b c → AskedRises a c
+asked_then None None c first second = second
+asked_then None (Some b) c first second = absurd first
+asked_then (Some a) None c first second = absurd first
+asked_then (Some a) (Some b) None first second = absurd second
+asked_then (Some a) (Some b) (Some c) first second = omega (arith, first, second)
+
 -- What a call did
 
 pub no_batch : (MayHand : Batch → Type 0) (batch : Batch) → NoBatch batch → MayHand batch
 no_batch MayHand batch none = absurd none
 
 -- a call that adds nothing to the group's list
-quiet : (s t : Link) (h k : Option (List BackEvent)) → t.group ≡ s.group → t.mine ≡ s.mine → ((index : ℕ) → s.done index ≤ t.done index) → t.now ≡ s.now → GoesOn s.group h k → (IsGoing h → IsGoing k) → AtBack s t h k 0 false false NoBatch
-quiet s t h k group mine known now on going = record {
+quiet : (s t : Link) (h k : Option (List BackEvent)) → t.group ≡ s.group → t.mine ≡ s.mine → ((index : ℕ) → s.done index ≤ t.done index) → t.now ≡ s.now → AskedRises s.asked t.asked → GoesOn s.group h k → (IsGoing h → IsGoing k) → AtBack s t h k 0 false false NoBatch
+quiet s t h k group mine known now asked on going = record {
   group = group;
   gained = [];
   grows = mine ∙ sym (append-nil s.mine);
   known = known;
+  numbers = λ index. rw mine (omega arith);
+  loaded = asked;
   still = λ no. now;
   uploads = omega (arith, uploaded_none);
   batches = All-nil NoBatch;
@@ -60,28 +98,31 @@ quiet s t h k group mine known now on going = record {
 
 pub nothing_done : (s t : Link) (h k : Option (List BackEvent)) → t ≡ s → GoesOn s.group h k → (IsGoing h → IsGoing k) → AtBack s t h k 0 false false NoBatch
 nothing_done s t h k e on going =
-    quiet s t h k (ap (λ (l : Link). l.group) e) (ap (λ (l : Link). l.mine) e) (λ index. subst (λ (l : Link). s.done index ≤ l.done index) (sym e) (omega arith)) (ap (λ (l : Link). l.now) e) on going
+    quiet s t h k (ap (λ (l : Link). l.group) e) (ap (λ (l : Link). l.mine) e) (λ index. subst (λ (l : Link). s.done index ≤ l.done index) (sym e) (omega arith)) (ap (λ (l : Link). l.now) e) (subst (λ (l : Link). AskedRises s.asked l.asked) (sym e) (asked_same s.asked)) on going
 
 pub create_done : (s t : Link) (h k : Option (List BackEvent)) (id : ℕ) (kind : Kind) → t ≡ created s id kind → GoesOn s.group h k → (IsGoing h → IsGoing k) → AtBack s t h k 0 false false NoBatch
 create_done s t h k id kind e on going =
-    subst (λ (l : Link). AtBack s l h k 0 false false NoBatch) (sym e) (quiet s (created s id kind) h k refl refl (λ index. omega arith) refl on going)
+    subst (λ (l : Link). AtBack s l h k 0 false false NoBatch) (sym e) (quiet s (created s id kind) h k refl refl (λ index. omega arith) refl (asked_same s.asked) on going)
 
 pub give_done : (s t : Link) (h k : Option (List BackEvent)) (id : ℕ) (uses : List QueueSerial) → t ≡ gave s id uses → GoesOn s.group h k → (IsGoing h → IsGoing k) → AtBack s t h k 0 false false NoBatch
 give_done s t h k id uses e on going =
-    subst (λ (l : Link). AtBack s l h k 0 false false NoBatch) (sym e) (quiet s (gave s id uses) h k refl refl (λ index. omega arith) refl on going)
+    subst (λ (l : Link). AtBack s l h k 0 false false NoBatch) (sym e) (quiet s (gave s id uses) h k refl refl (λ index. omega arith) refl (asked_same s.asked) on going)
 
 pub abandon_done : (s t : Link) (h k : Option (List BackEvent)) (id : ℕ) → t ≡ abandoned s id → GoesOn s.group h k → (IsGoing h → IsGoing k) → AtBack s t h k 0 false false NoBatch
 abandon_done s t h k id e on going =
-    subst (λ (l : Link). AtBack s l h k 0 false false NoBatch) (sym e) (quiet s (abandoned s id) h k refl refl (λ index. omega arith) refl on going)
+    subst (λ (l : Link). AtBack s l h k 0 false false NoBatch) (sym e) (quiet s (abandoned s id) h k refl refl (λ index. omega arith) refl (asked_same s.asked) on going)
 
 -- a call that adds one item
-one_more : (s : Link) (h k : Option (List BackEvent)) (x : Own) (due : ℕ) (MayHand : Batch → Type 0) → written_by x ≤ due → All MayHand (batches_of (x ∷ [])) → GoesOn s.group h k → (IsGoing h → IsGoing k)
+one_more : (s : Link) (h k : Option (List BackEvent)) (x : Own) (due : ℕ) (MayHand : Batch → Type 0) → written_by x ≤ due → All MayHand (batches_of (x ∷ [])) →
+    ((i : ℕ) → last_number (batches_of s.mine) i ≤ last_number (batches_of (s.mine ++ x ∷ [])) i) → GoesOn s.group h k → (IsGoing h → IsGoing k)
     → AtBack s (record s { mine = s.mine ++ x ∷ [] }) h k due false false MayHand
-one_more s h k x due MayHand low may on going = record {
+one_more s h k x due MayHand low may numbers on going = record {
   group = refl;
   gained = x ∷ [];
   grows = refl;
   known = λ index. omega arith;
+  numbers = numbers;
+  loaded = asked_same s.asked;
   still = λ no. refl;
   uploads = omega (arith, uploaded_one x, low);
   batches = may;
@@ -91,15 +132,16 @@ one_more s h k x due MayHand low may on going = record {
 
 pub write_done : (s t : Link) (h k : Option (List BackEvent)) (id at : ℕ) (bytes : List ℕ) → t ≡ wrote s id at bytes → GoesOn s.group h k → (IsGoing h → IsGoing k) → AtBack s t h k (length bytes) false false NoBatch
 write_done s t h k id at bytes e on going =
-    subst (λ (l : Link). AtBack s l h k (length bytes) false false NoBatch) (sym e) (one_more s h k (HostWrote id at bytes) (length bytes) NoBatch (omega arith) (All-nil NoBatch) on going)
+    subst (λ (l : Link). AtBack s l h k (length bytes) false false NoBatch) (sym e) (one_more s h k (HostWrote id at bytes) (length bytes) NoBatch (omega arith) (All-nil NoBatch) (numbers_with s.mine (HostWrote id at bytes) refl) on going)
 
 pub fetch_done : (s t : Link) (h k : Option (List BackEvent)) (id at : ℕ) (bytes : List ℕ) → t ≡ fetched s id at bytes → GoesOn s.group h k → (IsGoing h → IsGoing k) → AtBack s t h k 0 false false NoBatch
 fetch_done s t h k id at bytes e on going =
-    subst (λ (l : Link). AtBack s l h k 0 false false NoBatch) (sym e) (one_more s h k (HostRead id at bytes) 0 NoBatch (omega arith) (All-nil NoBatch) on going)
+    subst (λ (l : Link). AtBack s l h k 0 false false NoBatch) (sym e) (one_more s h k (HostRead id at bytes) 0 NoBatch (omega arith) (All-nil NoBatch) (numbers_with s.mine (HostRead id at bytes) refl) on going)
 
-pub enqueue_done : (MayHand : Batch → Type 0) (s t : Link) (h k : Option (List BackEvent)) (batch : Batch) → MayHand batch → t ≡ enqueued s batch → GoesOn s.group h k → (IsGoing h → IsGoing k) → AtBack s t h k 0 false false MayHand
-enqueue_done MayHand s t h k batch may e on going =
-    subst (λ (l : Link). AtBack s l h k 0 false false MayHand) (sym e) (one_more s h k (Enqueued batch) 0 MayHand (omega arith) (All-cons MayHand batch [] may (All-nil MayHand)) on going)
+pub enqueue_done : (MayHand : Batch → Type 0) (s t : Link) (h k : Option (List BackEvent)) (batch : Batch) → MayHand batch → batch.number ≡ next_number s.mine batch.index → t ≡ enqueued s batch → GoesOn s.group h k → (IsGoing h → IsGoing k) → AtBack s t h k 0 false false MayHand
+enqueue_done MayHand s t h k batch may next e on going =
+    subst (λ (l : Link). AtBack s l h k 0 false false MayHand) (sym e) (one_more s h k (Enqueued batch) 0 MayHand (omega arith) (All-cons MayHand batch [] may (All-nil MayHand))
+    (numbers_then s.mine batch (omega (arith, next))) on going)
 
 risen : (s : Link) (index number : ℕ) → s.done index ≤ number → (i : ℕ) → (i ≡ index) ⊎ (i ≡ index → ⊥) → s.done i ≤ put s.done index number i
 unfolding put
@@ -109,7 +151,7 @@ risen s index number low i (inr e) = rw (cond-false (i == index) number (s.done 
 pub ask_done : (s t : Link) (h k : Option (List BackEvent)) (index number : ℕ) → Completes s t index number → GoesOn s.group h k → (IsGoing h → IsGoing k) → AtBack s t h k 0 false false NoBatch
 ask_done s t h k index number asks on going =
     quiet s t h k (ap (λ (l : Link). l.group) asks.rest) (ap (λ (l : Link). l.mine) asks.rest)
-    (λ i. subst (λ (l : Link). s.done i ≤ l.done i) (sym asks.rest) (risen s index number asks.rises i (cases_eq i index))) (ap (λ (l : Link). l.now) asks.rest) on going
+    (λ i. subst (λ (l : Link). s.done i ≤ l.done i) (sym asks.rest) (risen s index number asks.rises i (cases_eq i index))) (ap (λ (l : Link). l.now) asks.rest) (loads_rise s.asked t.asked index asks.loaded) on going
 
 pub learn_done : (s t : Link) (h k : Option (List BackEvent)) → Learns s t → GoesOn s.group h k → (IsGoing h → IsGoing k) → AtBack s t h k 0 true false NoBatch
 learn_done s t h k learns on going = record {
@@ -117,6 +159,8 @@ learn_done s t h k learns on going = record {
   gained = [];
   grows = ap (λ (l : Link). l.mine) learns.rest ∙ sym (append-nil s.mine);
   known = learns.rises;
+  numbers = λ index. rw (ap (λ (l : Link). l.mine) learns.rest) (omega arith);
+  loaded = learns.loaded;
   still = λ no. absurd (false≢true (sym no));
   uploads = omega (arith, uploaded_none);
   batches = All-nil NoBatch;
@@ -131,6 +175,8 @@ stop_done s t h k w learns same on = record {
   gained = [];
   grows = ap (λ (l : Link). l.mine) learns.rest ∙ sym (append-nil s.mine);
   known = learns.rises;
+  numbers = λ index. rw (ap (λ (l : Link). l.mine) learns.rest) (omega arith);
+  loaded = learns.loaded;
   still = same;
   uploads = omega (arith, uploaded_none);
   batches = All-nil NoBatch;
@@ -165,6 +211,8 @@ within {s} {t} {h} {k} {a} {w} {x} {MayHand} due waits stops MayHandToo low wait
   gained = did.gained;
   grows = did.grows;
   known = did.known;
+  numbers = did.numbers;
+  loaded = did.loaded;
   still = λ none. still_then w waits s t wait did.still none;
   uploads = omega (arith, did.uploads, low);
   batches = All-weaker MayHand MayHandToo hand (batches_of did.gained) did.batches;
@@ -180,6 +228,8 @@ then_at_the_back {s} {t} {u} {h} {k} {l} {a} {b} {w} {x} {MayHand} first second 
   gained = first.gained ++ second.gained;
   grows = second.grows ∙ ap (λ m. m ++ second.gained) first.grows ∙ append_assoc s.mine first.gained second.gained;
   known = λ index. omega (arith, first.known index, second.known index);
+  numbers = λ index. omega (arith, first.numbers index, second.numbers index);
+  loaded = asked_then s.asked t.asked u.asked first.loaded second.loaded;
   still = λ no. second.still no ∙ first.still no;
   uploads = omega (arith, uploaded_append first.gained second.gained, first.uploads, second.uploads);
   batches = All-same MayHand (batches_of (first.gained ++ second.gained)) (batches_of first.gained ++ batches_of second.gained) (flat_map-append batch_by first.gained second.gained)

@@ -5,7 +5,9 @@ use Rattle.vk_device.specs.declared.logged.Logged.{Logged}
 use Rattle.vk_device.specs.declared.logged.Logged.TheVariants as logged
 use Rattle.back_core.specs.declared.back_event.BackEvent.{BackEvent}
 use Rattle.back_core.specs.Own.{Own, HostWrote, Enqueued, HostRead, batches_of}
+use Rattle.submit_queue.specs.Histories.{last_number}
 use Rattle.back_core.specs.Link.{Link}
+use Rattle.back_core.specs.Answers.{AskedRises}
 use Rattle.back_core.specs.History.{is_outside}
 use Rattle.back_core.specs.Back.{is_stopped, ending_of}
 
@@ -50,14 +52,16 @@ abbrev pub NoBatch : Batch → Type 0
 NoBatch batch = ⊥
 
 -- What some calls of a link did, seen by the link before and after, and by what is told of the back before and now: the host
--- wrote no more bytes than are due, completed numbers are told as before unless a call may wait, a back that was not stopped is
--- not stopped unless a call ended by a stop, and each batch that was handed over is one that may be.
+-- wrote no more bytes than are due, no number of a batch fell, completed numbers are told as before unless a call may wait, a back
+-- that was not stopped is not stopped unless a call ended by a stop, and each batch that was handed over is one that may be.
 pub record AtBack (old new : Link) (before now : Option (List BackEvent)) (due : ℕ) (waits stops : Bool) (MayHand : Batch → Type 0) : Type 0 where
   pub group : new.group ≡ old.group
   -- what the group's list has gained at its end
   pub gained : List Own
   pub grows : new.mine ≡ old.mine ++ gained
   pub known : (index : ℕ) → old.done index ≤ new.done index
+  pub numbers : (index : ℕ) → last_number (batches_of old.mine) index ≤ last_number (batches_of new.mine) index
+  pub loaded : AskedRises old.asked new.asked
   pub still : waits ≡ false → new.now ≡ old.now
   pub uploads : uploaded gained ≤ due
   pub batches : All MayHand (batches_of gained)

@@ -17,4 +17,4 @@ returns-clause-at_back g c =
     let h = c.args.self.now.back.history in
     let group : IsOfGroup c.args.self.now.group c.args.batch.index = subst (λ k. IsOfGroup k c.args.batch.index) (group_of h c.args.self.now.group) c.requires.of_group in
     let own = group_is c.args.batch.index c.args.self.now.group group in
-    enqueue_acts c.enqueue.result h c.enqueue.new.self.history c.args.self.now.group c.args.batch own (c.what_a_group_sees.ensures.enqueue h c.args.self.now.group c.args.batch own) c.enqueue.ensures.ok c.enqueue.ensures.err
+    enqueue_acts c.enqueue.result h c.enqueue.new.self.history c.args.self.now.group c.args.batch own c.requires.next (c.what_a_group_sees.ensures.enqueue h c.args.self.now.group c.args.batch own) c.enqueue.ensures.ok c.enqueue.ensures.err
