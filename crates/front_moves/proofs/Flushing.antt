@@ -1,5 +1,5 @@
 -- What a flush comes to.
-use Rattle.std.proofs.Common.{◌≡◌, ℕ, ◌+◌, ◌*◌, List, [], ◌∷◌, ◌++◌, length, refl, sym, ap, subst, ◌∙◌, arith, append-nil, inl, inr}
+use Rattle.std.proofs.Common.{◌≡◌, ℕ, ◌+◌, ◌*◌, ◌≤◌, List, [], ◌∷◌, ◌++◌, length, refl, sym, ap, subst, ◌∙◌, arith, append-nil, inl, inr}
 use Rattle.std.specs.Prelude.{slice_index_or}
 use Rattle.std.proofs.lemmas.Bool.{cases_eq}
 use mathlib.Core.Path.{fun_ext}
@@ -18,7 +18,7 @@ use Rattle.front_model.proofs.Uses.{log_then}
 use Rattle.front_moves.specs.Core.{CoreParts, face, HasFlushed}
 use Rattle.front_moves.proofs.Faces.{pending_at, last_own}
 
-empty_of : {X : Type 0} (xs : List X) → length xs ≡ 0 → xs ≡ []
+pub empty_of : {X : Type 0} (xs : List X) → length xs ≡ 0 → xs ≡ []
 empty_of [] e = refl
 empty_of (x ∷ xs) e = absurd (omega arith)
 
@@ -29,15 +29,26 @@ put_own f k v is = fun_ext (λ i. elim (cases_eq i k) [
   | inr other ↦ sym (put-other f k v i other)
 ])
 
-pub nothing_flushed : (c : CoreParts) (s : Link) (index place : ℕ) → Holds (face c) no_hands s → IsOfGroup c.indexes.group index →
-    place + 8 * c.indexes.group ≡ index → length (slice_index_or c.pending place []) ≡ 0 → HasFlushed (face c) (face c) s s index
-nothing_flushed c s index place h own at none =
-    let is : (face c).pending index ≡ [] = pending_at c.indexes.group c.pending index place own at ∙ empty_of (slice_index_or c.pending place []) none in
-    record {
-      moved = record { holds = h; view_is = refl; outlines_are = refl; still = λ o quiet. quiet };
-      flushed = record { pending = put_own (face c).pending index [] is; objects = refl; group = refl };
-      log = sym (ap (λ nodes. log_of s.mine ++ commands 0 nodes) is ∙ append-nil (log_of s.mine));
-    }
+pub nothing_flushed : (f : Face) (s : Link) (index : ℕ) → Holds f no_hands s → f.pending index ≡ [] → HasFlushed f f s s index
+nothing_flushed f s index h none = record {
+  moved = record { holds = h; view_is = refl; outlines_are = refl; still = λ o quiet. quiet };
+  flushed = record { pending = put_own f.pending index [] none; objects = refl; group = refl };
+  log = sym (ap (λ nodes. log_of s.mine ++ commands 0 nodes) none ∙ append-nil (log_of s.mine));
+}
+
+-- no last number has fallen
+pub last_rises : (f g : Face) (index : ℕ) → g.last ≡ put f.last index (f.last index + 1) → (i : ℕ) → f.last i ≤ g.last i
+last_rises f g index is i = elim (cases_eq i index) [
+  | inl same ↦
+      let now : g.last i ≡ f.last index + 1 = ap (λ (l : ℕ → ℕ). l i) is ∙ put_at f.last index (f.last index + 1) i same in
+      let was : f.last i ≡ f.last index = ap f.last same in
+      omega arith
+  | inr other ↦ let now : g.last i ≡ f.last i = ap (λ (l : ℕ → ℕ). l i) is ∙ put-other f.last index (f.last index + 1) i other in omega arith
+]
+
+-- a batch that is handed over changes the list alone
+pub only_enqueued : (s t : Link) → (batch : Batch) × (t ≡ enqueued s batch) → (t.done ≡ s.done) × (t.asked ≡ s.asked)
+only_enqueued s t one = (ap (λ (l : Link). l.done) one.1, ap (λ (l : Link). l.asked) one.1)
 
 pub batch_flushed : (f g : Face) (s t : Link) (index : ℕ) (batch : Batch) → g ≡ flushed f index → t ≡ enqueued s batch → IsNextBatch f index batch →
     Holds (flushed f index) no_hands (enqueued s batch) → view (flushed f index) (enqueued s batch) ≡ view f s →
@@ -58,6 +69,12 @@ pub record IsAtPlace (c : CoreParts) (s : Link) (index place : ℕ) : Type 0 whe
 pub same_place : (c d : CoreParts) (s : Link) (index place : ℕ) → c ≡ d → Holds (face d) no_hands s → IsOfGroup d.indexes.group index → place + 8 * d.indexes.group ≡ index →
     IsAtPlace c s index place
 same_place c d s index place same h own at = subst (λ x. IsAtPlace x s index place) (sym same) (record { holds = h; own = own; at = at })
+
+-- how much is pending at the place of an index
+pub pending_length : (c d : CoreParts) (index place n : ℕ) → c ≡ d → IsOfGroup d.indexes.group index → place + 8 * d.indexes.group ≡ index →
+    n ≡ length (slice_index_or c.pending place []) → n ≡ length ((face d).pending index)
+pending_length c d index place n same own at is =
+    subst (λ (x : CoreParts). n ≡ length (slice_index_or x.pending place [])) same is ∙ sym (ap length (pending_at d.indexes.group d.pending index place own at))
 
 -- the next batch of an index
 pub next_batch : (c : CoreParts) (index place : ℕ) (batch : Batch) → IsOfGroup c.indexes.group index → place + 8 * c.indexes.group ≡ index →

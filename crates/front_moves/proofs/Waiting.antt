@@ -1,13 +1,14 @@
--- How far waiting for the batches that use a buffer has come.
+-- What waiting learns, and how far waiting for the batches that use a buffer has come.
 use Rattle.std.proofs.Common.{◌≡◌, ℕ, ◌+◌, ◌*◌, ◌<◌, ◌≤◌, refl, sym, ap, subst, ◌∙◌, arith, inl, inr}
 use Rattle.std.specs.Prelude.{◌⊎◌, Option, Some, None, IfSome, IfNone}
-use Rattle.std.proofs.lemmas.Bool.{cases_lt, cond-false}
+use Rattle.std.proofs.lemmas.Bool.{cases_eq, cases_lt, cond-false}
 use Rattle.back_core.specs.Own.{last_use}
-use Rattle.back_core.specs.Link.{Link, Asked}
-use Rattle.back_core.specs.Needs.{IsOfGroup}
-use Rattle.back_core.specs.Answers.{NowRises, AskedRises, Learns}
+use Rattle.back_core.specs.Link.{Link, Asked, put}
+use Rattle.back_core.specs.Needs.{IsOfGroup, HasBatch}
+use Rattle.back_core.specs.Answers.{NowRises, AskedRises, Learns, Loads, Completes}
 use Rattle.front_model.specs.Face.{Buffer, Stored, Face, nodes_touch}
 use Rattle.front_model.specs.Stands.{Holds, no_hands}
+use Rattle.front_model.proofs.Base.{put_at, put-other}
 use Rattle.front_model.proofs.LinkSteps.{own_or_not}
 use Rattle.front_moves.specs.Core.{IsUntouched, IsRetired}
 
@@ -47,6 +48,29 @@ learns_then s t u a b = record {
   told = now_then s.now t.now u.now a.told b.told;
   loaded = asked_then s.asked t.asked u.asked a.loaded b.loaded;
 }
+
+-- What an index's completed number tells is learned
+
+loads_rise : (o p : Option Asked) (index : ℕ) → Loads o p index → AskedRises o p
+loads_rise None None index loads = tt
+loads_rise None (Some b) index loads = absurd cc
+loads_rise (Some a) None index loads = absurd loads
+loads_rise (Some a) (Some b) index loads = let more : a.loads < b.loads = loads.0 in omega arith
+
+put_rises : (f : ℕ → ℕ) (index number : ℕ) → f index ≤ number → (i : ℕ) → f i ≤ put f index number i
+put_rises f index number low i = elim (cases_eq i index) [
+  | inl same ↦
+      let now : put f index number i ≡ number = put_at f index number i same in
+      let was : f i ≡ f index = ap f same in
+      omega arith
+  | inr other ↦ let now : put f index number i ≡ f i = put-other f index number i other in omega arith
+]
+
+asked_one : (s : Link) (asked : Option Asked) (index number : ℕ) → s.done index ≤ number → AskedRises s.asked asked → Learns s (record s { done = put s.done index number; asked = asked })
+asked_one s asked index number low loaded = record { rest = refl; rises = put_rises s.done index number low; told = now_same s.now; loaded = loaded }
+
+pub completed_learns : (s t : Link) (index number : ℕ) → Completes s t index number → Learns s t
+completed_learns s t index number is = subst (Learns s) (sym is.rest) (asked_one s t.asked index number is.rises (loads_rise s.asked t.asked index is.loaded))
 
 -- How far waiting has come
 
@@ -102,3 +126,9 @@ waited_all f s t b h waited i x is = subst (λ m. last_use m i x.handle ≤ t.do
     go : IsOfGroup f.group i ⊎ (IsOfGroup f.group i → ⊥) → last_use s.mine i x.handle ≤ t.done i
     go (inl own) = waited.covered i x own.0 own.1 is
     go (inr far) = let none : last_use s.mine i x.handle ≡ 0 = h.foreign i x.handle far in omega arith
+
+-- A batch
+
+-- a number up to the last one of an index is that of a batch
+pub batch_is : (f : Face) (s : Link) (index number : ℕ) → Holds f no_hands s → IsOfGroup f.group index → 1 ≤ number → number ≤ f.last index → HasBatch s index number
+batch_is f s index number h own some low = (some, subst (λ n. number ≤ n) (h.last index own) low)

@@ -1,9 +1,10 @@
 // What each move comes to, on plain values.
-ghost use Rattle.std.specs.Prelude.{◌≡◌, ℕ, ◌+◌, ◌-◌, ◌*◌, ◌<◌, ◌≤◌, [], replicate, slice_set, slice_index_or, length};
+ghost use Rattle.std.specs.Prelude.{◌≡◌, ℕ, ◌+◌, ◌-◌, ◌*◌, ◌<◌, ◌≤◌, [], replicate, slice_set};
 ghost use Rattle.vk_types.specs.declared.batches.Batch.{Batch};
 ghost use Rattle.queue_serials.specs.Indexes.{with_last, last_of, unused};
 ghost use Rattle.back_core.specs.Link.{Link, IsNew, enqueued};
 ghost use Rattle.back_core.specs.Needs.{IsOfGroup, MayEnqueue};
+ghost use Rattle.front_model.specs.Face.{Face};
 ghost use Rattle.front_model.specs.Stands.{Holds, Owns, no_hands};
 ghost use Rattle.front_model.specs.Steps.{IsNextBatch};
 ghost use Rattle.front_moves.specs.Core.{CoreParts, face, HasFlushed};
@@ -23,8 +24,7 @@ pub(crate) fn flush_comes_to()
     ensures number { (c : CoreParts) (s : Link) (index : ℕ) → Holds (face c) no_hands s → IsOfGroup c.indexes.group index → (face c).last index ≡ last_of c.indexes index }
     ensures below { (c : CoreParts) (s : Link) (index : ℕ) → Holds (face c) no_hands s → IsOfGroup c.indexes.group index → last_of c.indexes index < 18446744073709551615 }
     // nothing was pending
-    ensures nothing { (c : CoreParts) (s : Link) (index place : ℕ) → Holds (face c) no_hands s → IsOfGroup c.indexes.group index →
-        place + 8 * c.indexes.group ≡ index → length (slice_index_or c.pending place []) ≡ 0 → HasFlushed (face c) (face c) s s index }
+    ensures nothing { (f : Face) (s : Link) (index : ℕ) → Holds f no_hands s → f.pending index ≡ [] → HasFlushed f f s s index }
     // the next batch of the index
     ensures may { (c : CoreParts) (s : Link) (index : ℕ) (batch : Batch) → Holds (face c) no_hands s → IsOfGroup c.indexes.group index →
         IsNextBatch (face c) index batch → MayEnqueue s batch }

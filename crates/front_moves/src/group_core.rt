@@ -1,10 +1,10 @@
 // A share group's front without its history.
-ghost use Rattle.std.specs.Prelude.{◌≡◌, ℕ, ◌+◌, ◌*◌, ◌<◌, ◌≤◌, ◌==◌, ◌||◌, false, ◌++◌, [], ◌∷◌, length, OnOk, OnErr, IfOk, IfSome, IfNone, is_err};
+ghost use Rattle.std.specs.Prelude.{◌≡◌, ℕ, ◌+◌, ◌*◌, ◌<◌, ◌≤◌, ◌==◌, ◌||◌, true, false, ◌++◌, [], ◌∷◌, length, OnOk, OnErr, IfOk, IfSome, IfNone, is_err};
 ghost use Rattle.vk_device.specs.Faults.{HasCause};
 ghost use Rattle.resource_use.specs.Uses.{number_of};
 ghost use Rattle.vk_model.specs.Log.{commands};
 ghost use Rattle.back_core.specs.Own.{log_of};
-ghost use Rattle.back_core.specs.Link.{Link, IsNew};
+ghost use Rattle.back_core.specs.Link.{Link, IsNew, put, enqueued};
 ghost use Rattle.back_core.specs.Needs.{IsOfGroup};
 ghost use Rattle.front_model.specs.Face.{Buffer, outline_at, view, nodes_touch};
 ghost use Rattle.front_model.specs.Stands.{Holds, Owns, Moved, IsQuiet, no_hands};
@@ -78,6 +78,14 @@ impl Core {
         usize::from(index.get() - 8 * self.group)
     }
 
+    /// The number of the last batch of an index, 0 before the first.
+    pub fn last(&self, index: SerialIndex) -> u64
+        requires { IsOfGroup (face self.now).group index }
+        ensures { result ≡ (face self.now).last index }
+    {
+        self.indexes.last(index)
+    }
+
     /// The serial of the next batch of an index.
     pub fn next_serial<L: BackLink>(&self, link: &L, index: SerialIndex) -> QueueSerial
         requires holds { Holds (face self.now) no_hands (L.state link.now) }
@@ -93,6 +101,15 @@ impl Core {
         }
     }
 
+    /// Whether something is pending in a context.
+    pub fn has_pending(&self, index: SerialIndex) -> bool
+        requires group { IsOfGroup (face self.now).group index }
+        ensures some { result ≡ true → 0 < length ((face self.now).pending index) }
+        ensures none { result ≡ false → (face self.now).pending index ≡ [] }
+    {
+        self.pending.len(self.place(index)) > 0
+    }
+
     /// Hands what is pending in a context to the back, if there is something.
     pub fn flush<L: BackLink>(
         &mut self,
@@ -104,17 +121,42 @@ impl Core {
         requires group { IsOfGroup (face self.old).group index }
         ensures moved { OnOk result (Moved (face self.new) (L.state link.new) (view (face self.old) (L.state link.old)) (outline_at (face self.old)) (IsQuiet (face self.old) (L.state link.old))) }
         ensures flushed { OnOk result (IsFlushed (face self.old) (face self.new) index) }
+        ensures last { OnOk result ((i : ℕ) → (face self.old).last i ≤ (face self.new).last i) }
         ensures group { (face self.new).group ≡ (face self.old).group }
         ensures log { OnOk result (log_of (L.state link.new).mine ≡ log_of (L.state link.old).mine ++ commands 0 ((face self.old).pending index)) }
+        ensures link { OnOk result (((L.state link.new).done ≡ (L.state link.old).done) × ((L.state link.new).asked ≡ (L.state link.old).asked)) }
+        ensures err { OnErr result (Owns (face self.new).objects (L.state link.new)) }
+        ensures cause { HasCause (L.faults link.old) (L.faults link.new) result }
+        ensures at_back { ActsAtBack L.state L.told link.old link.new 0 false (is_err result) (IsFlushOf (face self.old) index reason) }
+    {
+        flush_comes_to();
+        if self.has_pending(index) {
+            return self.hand_over(link, index, reason);
+        }
+        Ok(())
+    }
+
+    /// Hands what is pending in a context to the back as one batch, which has no nodes where nothing is pending.
+    pub fn hand_over<L: BackLink>(
+        &mut self,
+        link: &mut L,
+        index: SerialIndex,
+        reason: Reason,
+    ) -> Result<(), Stop>
+        requires holds { Holds (face self.old) no_hands (L.state link.old) }
+        requires group { IsOfGroup (face self.old).group index }
+        ensures moved { OnOk result (Moved (face self.new) (L.state link.new) (view (face self.old) (L.state link.old)) (outline_at (face self.old)) (IsQuiet (face self.old) (L.state link.old))) }
+        ensures flushed { OnOk result (IsFlushed (face self.old) (face self.new) index) }
+        ensures last { OnOk result ((face self.new).last ≡ put (face self.old).last index ((face self.old).last index + 1)) }
+        ensures group { (face self.new).group ≡ (face self.old).group }
+        ensures log { OnOk result (log_of (L.state link.new).mine ≡ log_of (L.state link.old).mine ++ commands 0 ((face self.old).pending index)) }
+        ensures link { OnOk result ((batch : Batch) × (L.state link.new ≡ enqueued (L.state link.old) batch)) }
         ensures err { OnErr result (Owns (face self.new).objects (L.state link.new)) }
         ensures cause { HasCause (L.faults link.old) (L.faults link.new) result }
         ensures at_back { ActsAtBack L.state L.told link.old link.new 0 false (is_err result) (IsFlushOf (face self.old) index reason) }
     {
         flush_comes_to();
         let place = self.place(index);
-        if self.pending.len(place) == 0 {
-            return Ok(());
-        }
         let number = self.indexes.next(index);
         let batch = Batch {
             index,

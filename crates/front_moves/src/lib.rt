@@ -10,6 +10,7 @@ mod ending;
 mod group_core;
 mod moves;
 mod pending;
+mod progress;
 mod reading_comes_to;
 mod recording;
 mod recording_comes_to;

@@ -10,7 +10,7 @@ pub returns : goal.returns
 returns c = record {
   number = λ k s index h own. last_own k.indexes index own;
   below = λ k s index h own. subst (λ n. n < 18446744073709551615) (last_own k.indexes index own) (h.room index own);
-  nothing = λ k s index place h own at none. nothing_flushed k s index place h own at none;
+  nothing = λ f s index h none. nothing_flushed f s index h none;
   may = λ k s index batch h own next. c.steps_may.ensures.enqueue (face k) no_hands s index batch h own next;
   batch = λ k d s t index place batch h own at next room kept is_core is_link.
       batch_flushed (face k) (face d) s t index batch
