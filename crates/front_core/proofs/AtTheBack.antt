@@ -18,14 +18,15 @@ use Rattle.gl_model.specs.Bindings.{current_context, buffer_binding}
 use Rattle.gl_model.specs.Refusal.{refusal}
 use Rattle.back_core.specs.declared.back_event.BackEvent.{BackEvent}
 use Rattle.back_core.specs.Link.{Link}
-use Rattle.back_core.specs.Frame.{AtBack, NoBatch}
-use Rattle.back_core.proofs.Frames.{none_done, within, then_within, no_batch}
+use Rattle.back_core.specs.Frame.{AtBack}
+use Rattle.back_core.proofs.Frames.{none_done, within, no_batch}
 use Rattle.front_model.specs.Face.{Face}
 use Rattle.front_moves.specs.Reasons as moves
 use Rattle.front_moves.specs.Reasons.{IsFlushOf, IsParting, IsSettling}
+use Rattle.sync_serials.specs.Serials.{SyncTables}
 use Rattle.front_core.specs.Share.{IsCarriedOut, current_index, replaced_index}
 use Rattle.front_core.specs.Economy as economy
-use Rattle.front_core.specs.Economy.{upload_due, due_of, may_wait, waits_of, used_targets, IsUsedBy, maps_a_buffer, IsSwitch, IsTrueReason, MayHandOver}
+use Rattle.front_core.specs.Economy.{upload_due, due_of, may_wait, waits_of, used_targets, IsUsedBy, maps_a_buffer, IsSwitch, IsTrueReason, IsSyncReason, HasTrueReason, MayHandOver}
 
 never : {A : Type 0} → false ≡ true → A
 never wrong = absurd (false≢true wrong)
@@ -125,8 +126,15 @@ along_back {s} {t} {h} {k} {stops} f g u v group after serials thread asked done
     subst (λ (x : Call). AtBack s t h k (upload_due group thread x) (may_wait x) stops (IsTrueReason f group serials thread x)) (sym same) did
 
 -- for an accepted call as much is due as for its data, and it may wait and hand over as it is
-pub when_accepted : {s t : Link} {h k : Option (List BackEvent)} {stops : Bool} (f : Face) (group : GroupState) (serials : Entries ℕ) (thread : ℕ) (asked : Call) → refusal group thread asked ≡ None →
-    AtBack s t h k (upload_due group thread asked) (may_wait asked) stops (IsTrueReason f group serials thread asked) → AtBack s t h k (due_of group thread asked) (waits_of group thread asked) stops (MayHandOver f group serials thread asked)
-when_accepted {s} {t} {h} {k} {stops} f group serials thread asked accepted did =
-    subst (λ (r : Option Reply). AtBack s t h k (option_map_or (λ answer. 0) r (upload_due group thread asked)) (option_map_or (λ answer. false) r (may_wait asked)) stops (MayHandOver f group serials thread asked)) (sym accepted)
-    (may_hand (MayHandOver f group serials thread asked) (λ batch is. record { accepted = accepted; true_reason = is }) did)
+pub when_accepted : {s t : Link} {h k : Option (List BackEvent)} {stops : Bool} (f : Face) (group : GroupState) (serials : Entries ℕ) (tables : SyncTables) (thread : ℕ) (asked : Call) → refusal group thread asked ≡ None →
+    AtBack s t h k (upload_due group thread asked) (may_wait asked) stops (HasTrueReason f group serials tables thread asked) → AtBack s t h k (due_of group thread asked) (waits_of group thread asked) stops (MayHandOver f group serials tables thread asked)
+when_accepted {s} {t} {h} {k} {stops} f group serials tables thread asked accepted did =
+    subst (λ (r : Option Reply). AtBack s t h k (option_map_or (λ answer. 0) r (upload_due group thread asked)) (option_map_or (λ answer. false) r (may_wait asked)) stops (MayHandOver f group serials tables thread asked)) (sym accepted)
+    (may_hand (MayHandOver f group serials tables thread asked) (λ batch is. record { accepted = accepted; true_reason = is }) did)
+
+-- a call on contexts or buffers hands over for a reason that is true of it, and so does one on syncs
+pub of_objects : (f : Face) (group : GroupState) (serials : Entries ℕ) (tables : SyncTables) (thread : ℕ) (asked : Call) (batch : Batch) → IsTrueReason f group serials thread asked batch → HasTrueReason f group serials tables thread asked batch
+of_objects f group serials tables thread asked batch is = inl is
+
+pub of_syncs : (f : Face) (group : GroupState) (serials : Entries ℕ) (tables : SyncTables) (thread : ℕ) (asked : Call) (batch : Batch) → IsSyncReason group serials tables thread asked batch → HasTrueReason f group serials tables thread asked batch
+of_syncs f group serials tables thread asked batch is = inr is

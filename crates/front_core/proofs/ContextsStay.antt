@@ -85,6 +85,15 @@ change_stays group n number context (call.UnmapBuffer target) built there = buff
 change_stays group n number context (call.MapRead target offset len) built there = refl
 change_stays group n number context (call.MapWrite target offset payload) built there = refl
 change_stays group n number context (call.PixelStore parameter value) built there = has-with_entry number n _ group.contexts there
+change_stays group n number context (call.CreateSync name) built there = refl
+change_stays group n number context (call.EglClientWaitSync name flush timeout) built there = refl
+change_stays group n number context (call.DestroySync name) built there = refl
+change_stays group n number context (call.FenceSync name condition flags) built there = refl
+change_stays group n number context (call.ClientWaitSync name flags timeout) built there = refl
+change_stays group n number context (call.WaitSync name flags end) built there = refl
+change_stays group n number context (call.DeleteSync name) built there = refl
+change_stays group n number context call.Flush built there = refl
+change_stays group n number context call.Finish built there = refl
 change_stays group n number context asked built there = absurd (false≢true built)
 
 change_in_stays : (group : GroupState) (thread n : ℕ) (asked : Call) (current : Option (ℕ × Context)) → is_built asked ≡ true → current_entry group thread ≡ current → has n (gl_change_in group current asked).contexts ≡ has n group.contexts

@@ -14,3 +14,6 @@ pub mod StateCalls
 pub mod Switching
 pub mod ThreadsStay
 pub mod Dues
+pub mod GoingOn
+pub mod Serving
+pub mod SyncMoves

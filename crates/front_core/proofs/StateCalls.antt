@@ -71,6 +71,13 @@ has_reply group thread (call.Bind (targets.Buffer target) name) which accepted n
 has_reply group thread (call.FlushMappedBufferRange target offset len) which accepted none = some_reply (current_context group thread) (λ context. reply.Done) (has_context group (current_context group thread) (call.FlushMappedBufferRange target offset len) accepted) none
 has_reply group thread (call.UnmapBuffer target) which accepted none = some_reply (current_context group thread) (λ context. reply.True) (has_context group (current_context group thread) (call.UnmapBuffer target) accepted) none
 has_reply group thread (call.PixelStore parameter value) which accepted none = some_reply (current_context group thread) (λ context. reply.Done) (has_context group (current_context group thread) (call.PixelStore parameter value) accepted) none
+has_reply group thread (call.CreateSync number) which accepted none = let bad : ⊥ = cc in bad
+has_reply group thread (call.DestroySync number) which accepted none = let bad : ⊥ = cc in bad
+has_reply group thread (call.FenceSync number condition flags) which accepted none = some_reply (current_context group thread) (λ context. reply.Done) (has_context group (current_context group thread) (call.FenceSync number condition flags) accepted) none
+has_reply group thread (call.WaitSync number flags end) which accepted none = some_reply (current_context group thread) (λ context. reply.Done) (has_context group (current_context group thread) (call.WaitSync number flags end) accepted) none
+has_reply group thread (call.DeleteSync number) which accepted none = some_reply (current_context group thread) (λ context. reply.Done) (has_context group (current_context group thread) (call.DeleteSync number) accepted) none
+has_reply group thread call.Flush which accepted none = some_reply (current_context group thread) (λ context. reply.Done) (has_context group (current_context group thread) call.Flush accepted) none
+has_reply group thread call.Finish which accepted none = some_reply (current_context group thread) (λ context. reply.Done) (has_context group (current_context group thread) call.Finish accepted) none
 has_reply group thread asked which accepted none = absurd (false≢true which)
 
 -- What is to be seen
@@ -143,6 +150,13 @@ module _ (laws : Keeping) (state : GroupModel) (thread place : ℕ) (seen : Obje
   still_agrees (call.Gen kinds.Buffer count) which accepted = quiet (call.Gen kinds.Buffer count) (none_either (current_context state.group thread)) (nil_either (current_context state.group thread))
   still_agrees (call.Bind (targets.Buffer target) name) which accepted = quiet (call.Bind (targets.Buffer target) name) (none_either (current_context state.group thread)) (nil_either (current_context state.group thread))
   still_agrees (call.PixelStore parameter value) which accepted = quiet (call.PixelStore parameter value) (none_either (current_context state.group thread)) (nil_either (current_context state.group thread))
+  still_agrees (call.CreateSync number) which accepted = quiet (call.CreateSync number) (none_either (current_context state.group thread)) (nil_either (current_context state.group thread))
+  still_agrees (call.DestroySync number) which accepted = quiet (call.DestroySync number) (none_either (current_context state.group thread)) (nil_either (current_context state.group thread))
+  still_agrees (call.FenceSync number condition flags) which accepted = quiet (call.FenceSync number condition flags) (none_either (current_context state.group thread)) (nil_either (current_context state.group thread))
+  still_agrees (call.WaitSync number flags end) which accepted = quiet (call.WaitSync number flags end) (none_either (current_context state.group thread)) (nil_either (current_context state.group thread))
+  still_agrees (call.DeleteSync number) which accepted = quiet (call.DeleteSync number) (none_either (current_context state.group thread)) (nil_either (current_context state.group thread))
+  still_agrees call.Flush which accepted = quiet call.Flush (none_either (current_context state.group thread)) (nil_either (current_context state.group thread))
+  still_agrees call.Finish which accepted = quiet call.Finish (none_either (current_context state.group thread)) (nil_either (current_context state.group thread))
   still_agrees asked which accepted = absurd (false≢true which)
 
 -- The stores, and what is mapped

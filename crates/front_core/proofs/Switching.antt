@@ -1,5 +1,5 @@
 -- A call after a flush is a call from before it.
-use Rattle.std.proofs.Common.{◌≡◌, ℕ, sym, ◌∙◌, ap, subst}
+use Rattle.std.proofs.Common.{◌≡◌, ℕ, ◌≤◌, None, sym, ◌∙◌, ap, subst, arith}
 use Rattle.std.specs.Prelude.{Option, Some, IfSome, Result, Ok, Err, OnOk, List, []}
 use Rattle.std.specs.Option.{option_map}
 use Rattle.gl_calls.specs.declared.call.Call.{Call}
@@ -10,8 +10,8 @@ use Rattle.back_core.specs.Link.{Link}
 use Rattle.front_model.specs.Face.{Object, Buffer, Face, Outline, outline_at, view}
 use Rattle.front_model.specs.Stands.{Moved, IsQuiet}
 use Rattle.front_model.specs.Wanted.{wanted, AgreeWith}
-use Rattle.front_model.proofs.Base.{put-same}
-use Rattle.front_moves.specs.Core.{IsFlushed}
+use Rattle.sync_serials.specs.Serials.{SyncTables}
+use Rattle.front_core.specs.Polls.{HasFlushedAll}
 use Rattle.front_core.specs.Share.{MayCall, IsCarriedOut}
 
 pub may_still : (f h : Face) (s u : Link) (group : GroupState) (thread : ℕ) (asked : Call) → MayCall f s group thread asked → Moved h u (view f s) (outline_at f) (IsQuiet f s) → MayCall h u group thread asked
@@ -36,11 +36,15 @@ carried_from f h g s u t group after thread asked answer same x = record {
   answers = λ state is agree. x.answers state is (subst (λ v. AgreeWith v (wanted state)) (sym same) agree);
 }
 
--- what is pending in the index that was flushed, where that is the one to be replaced
-pub flushed_pending : {A E : Type 0} (r : Result A E) (f g : Face) (index : ℕ) (replaced : Option ℕ) → Some index ≡ replaced → OnOk r (IsFlushed f g index) → OnOk r (IfSome replaced (λ i. g.pending i ≡ []))
-flushed_pending (Err e) f g index replaced is flushed = tt
-flushed_pending (Ok a) f g index replaced is flushed = subst (λ o. IfSome o (λ i. g.pending i ≡ [])) is (ap (λ (p : ℕ → List Node). p index) flushed.pending ∙ put-same f.pending index [])
+-- what holds of the index that was flushed holds of the one to be replaced, where that is the one
+pub flushed_replaced : {A E : Type 0} (r : Result A E) (P : ℕ → Type 0) (index : ℕ) (replaced : Option ℕ) → Some index ≡ replaced → OnOk r (P index) → OnOk r (IfSome replaced P)
+flushed_replaced (Err e) P index replaced is flushed = tt
+flushed_replaced (Ok a) P index replaced is flushed = subst (λ o. IfSome o P) is flushed
 
--- what is pending in that index after a call that leaves all that is pending
-pub flushed_still : (o : Option ℕ) (f g : ℕ → List Node) → g ≡ f → IfSome o (λ i. f i ≡ []) → IfSome o (λ i. g i ≡ [])
-flushed_still o f g same flushed = subst (λ (p : ℕ → List Node). IfSome o (λ i. p i ≡ [])) (sym same) flushed
+-- an index that was flushed is so after a call that leaves all that is pending, and in which no number falls
+pub flushed_still : (o : Option ℕ) (f g : Face) (tables : SyncTables) → g.pending ≡ f.pending → ((i : ℕ) → f.last i ≤ g.last i) → IfSome o (HasFlushedAll f tables) → IfSome o (HasFlushedAll g tables)
+flushed_still None f g tables same risen flushed = tt
+flushed_still (Some i) f g tables same risen flushed = record {
+  pending = ap (λ (p : ℕ → List Node). p i) same ∙ flushed.pending;
+  batched = omega (arith, flushed.batched, risen i);
+}

@@ -1,5 +1,5 @@
 -- What a call may do at the back: how many bytes the host writes, whether it may wait, and which batches it may hand over.
-use Rattle.std.specs.Prelude.{◌≡◌, ℕ, ◌+◌, Bool, true, false, unsigned_abs, List, [], ◌∷◌, Option, Some, None, Contains}
+use Rattle.std.specs.Prelude.{◌≡◌, ℕ, ◌+◌, ◌==◌, ◌⊎◌, Bool, true, false, not, unsigned_abs, List, [], ◌∷◌, Option, Some, None, Contains}
 use Rattle.std.specs.Option.{option_map_or}
 use Rattle.formats.specs.Texel.{bytes_per_texel}
 use Rattle.formats.specs.Rows.{needed_length}
@@ -12,6 +12,8 @@ use Rattle.gl_calls.specs.declared.words.BufferTarget.{BufferTarget}
 use Rattle.gl_calls.specs.Words.{payload_len}
 use Rattle.tables.specs.Table.{Entries}
 use Rattle.vk_types.specs.declared.batches.Batch.{Batch}
+use Rattle.vk_types.specs.declared.batches.QueueSerial.{QueueSerial}
+use Rattle.vk_types.specs.declared.batches.Reason.{Reason}
 use Rattle.vk_types.specs.declared.batches.Reason.TheVariants as reason
 use Rattle.gl_model.specs.declared.state.Context.{Context}
 use Rattle.gl_model.specs.declared.state.GroupState.{GroupState}
@@ -20,6 +22,9 @@ use Rattle.gl_model.specs.Bindings.{current_context, buffer_binding, image_of}
 use Rattle.gl_model.specs.Reached.{group_after}
 use Rattle.gl_model.specs.Refusal.{refusal}
 use Rattle.front_model.specs.Face.{Face}
+use Rattle.sync_serials.specs.declared.serials.SyncName.{SyncName}
+use Rattle.sync_serials.specs.declared.serials.SyncName.TheVariants.{Gl, Egl}
+use Rattle.sync_serials.specs.Serials.{SyncTables, serial_at}
 use Rattle.front_moves.specs.Reasons.{IsCross, IsFull}
 use Rattle.front_core.specs.Share.{current_index, replaced_index, replaced_by}
 
@@ -49,6 +54,9 @@ due_of group thread asked = option_map_or (λ answer. 0) (refusal group thread a
 -- the calls that may wait for the device where they are accepted
 abbrev pub may_wait : Call → Bool
 may_wait (call.MapBufferRange target offset len access) = true
+may_wait (call.EglClientWaitSync number flush timeout) = not (timeout == 0)
+may_wait (call.ClientWaitSync number flags timeout) = not (timeout == 0)
+may_wait call.Finish = true
 may_wait _ = false
 
 abbrev pub waits_of : GroupState → ℕ → Call → Bool
@@ -88,10 +96,66 @@ pub data IsTrueReason (f : Face) (group : GroupState) (serials : Entries ℕ) (t
       IsTrueReason f group serials thread asked batch
   full : IsFull batch → IsTrueReason f group serials thread asked batch
 
+-- the context that is current on a thread hands over for a reason
+pub record IsOfCurrent (group : GroupState) (serials : Entries ℕ) (thread : ℕ) (why : Reason) (batch : Batch) : Type 0 where
+  pub current : current_index group serials thread ≡ Some batch.index
+  pub for_reason : batch.reason ≡ why
+
+-- the context that made a sync hands over what the sync stands at the end of
+pub record IsForSync (serial : QueueSerial) (batch : Batch) : Type 0 where
+  pub of_index : batch.index ≡ serial.index
+  pub for_reason : batch.reason ≡ reason.Sync
+
+-- what a wait hands over for its own context, where it is to flush it
+pub record IsOwnFlush (group : GroupState) (serials : Entries ℕ) (thread : ℕ) (flush : Bool) (batch : Batch) : Type 0 where
+  pub asked : flush ≡ true
+  pub own : IsOfCurrent group serials thread reason.Flush batch
+
+-- what a wait with a positive timeout hands over for its sync
+pub record IsWaitedFor (serial : QueueSerial) (timeout : ℕ) (batch : Batch) : Type 0 where
+  pub positive : (timeout == 0) ≡ false
+  pub for_sync : IsForSync serial batch
+
+-- what a wait hands over
+abbrev pub IsForWait : GroupState → Entries ℕ → ℕ → QueueSerial → Bool → ℕ → Batch → Type 0
+IsForWait group serials thread serial flush timeout batch = IsOwnFlush group serials thread flush batch ⊎ IsWaitedFor serial timeout batch
+
+-- what a wait for a sync of this name hands over
+abbrev pub IsForPoll : GroupState → Entries ℕ → SyncTables → ℕ → SyncName → Bool → ℕ → Batch → Type 0
+IsForPoll group serials tables thread x flush timeout batch =
+    IsOwnFlush group serials thread flush batch ⊎ ((serial : QueueSerial) × (serial_at tables x ≡ Some serial) × IsWaitedFor serial timeout batch)
+
+-- the calls that flush the context that makes them: glFlush, and a wait that asks for it
+abbrev pub flushes_own : Call → Bool
+flushes_own call.Flush = true
+flushes_own (call.ClientWaitSync number flags timeout) = flags == 1
+flushes_own (call.EglClientWaitSync number flush timeout) = flush
+flushes_own _ = false
+
+-- the calls that flush the context of a sync: WaitSync, and a wait that may wait
+abbrev pub waits_for : Call → SyncName → Type 0
+waits_for (call.WaitSync number flags end) x = x ≡ Gl number
+waits_for (call.ClientWaitSync number flags timeout) x = (x ≡ Gl number) × ((timeout == 0) ≡ false)
+waits_for (call.EglClientWaitSync number flush timeout) x = (x ≡ Egl number) × ((timeout == 0) ≡ false)
+waits_for _ x = ⊥
+
+-- The reason of a batch is true of the call on syncs that handed it over: the call flushes or finishes the batch's context, or it
+-- waits for a sync that the batch's context made.
+pub data IsSyncReason (group : GroupState) (serials : Entries ℕ) (tables : SyncTables) (thread : ℕ) (asked : Call) (batch : Batch) : Type 0 where
+  flush : flushes_own asked ≡ true → IsOfCurrent group serials thread reason.Flush batch → IsSyncReason group serials tables thread asked batch
+  finish : asked ≡ call.Finish → IsOfCurrent group serials thread reason.Finish batch → IsSyncReason group serials tables thread asked batch
+  sync : (x : SyncName) (serial : QueueSerial) → waits_for asked x → serial_at tables x ≡ Some serial → IsForSync serial batch →
+      IsSyncReason group serials tables thread asked batch
+
+-- the reason of a batch is true of the call that handed it over
+abbrev pub HasTrueReason : Face → GroupState → Entries ℕ → SyncTables → ℕ → Call → Batch → Type 0
+HasTrueReason f group serials tables thread asked batch =
+    IsTrueReason f group serials thread asked batch ⊎ IsSyncReason group serials tables thread asked batch
+
 -- what an accepted call may hand over: batches whose reason is true of it
-pub record MayHandOver (f : Face) (group : GroupState) (serials : Entries ℕ) (thread : ℕ) (asked : Call) (batch : Batch) : Type 0 where
+pub record MayHandOver (f : Face) (group : GroupState) (serials : Entries ℕ) (tables : SyncTables) (thread : ℕ) (asked : Call) (batch : Batch) : Type 0 where
   pub accepted : refusal group thread asked ≡ None
-  pub true_reason : IsTrueReason f group serials thread asked batch
+  pub true_reason : HasTrueReason f group serials tables thread asked batch
 
 -- the bytes that are due over some entries from a state on, each call in the state before it
 abbrev pub due_from : GroupState → List Entry → ℕ

@@ -4,3 +4,4 @@ pub mod Copies
 pub mod Front
 pub mod Share
 pub mod Economy
+pub mod Polls

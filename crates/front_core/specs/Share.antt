@@ -7,7 +7,7 @@ use Rattle.gl_calls.specs.declared.words.ObjectKind.TheVariants as kinds
 use Rattle.gl_calls.specs.declared.words.BindTarget.TheVariants as targets
 use Rattle.gl_calls.specs.declared.reply.Reply.{Reply}
 use Rattle.gl_calls.specs.declared.reply.Reply.TheVariants as reply
-use Rattle.tables.specs.Table.{Entries, entry, has, any_value}
+use Rattle.tables.specs.Table.{Entries, entry, has, only, with_entry, any_value}
 use Rattle.gl_model.specs.declared.state.Context.{Context}
 use Rattle.gl_model.specs.declared.state.GroupState.{GroupState}
 use Rattle.gl_model.specs.Bindings.{current_entry}
@@ -21,7 +21,7 @@ use Rattle.back_core.specs.Own.{Own, HostRead}
 use Rattle.back_core.specs.Link.{Link}
 use Rattle.back_core.specs.Needs.{IsOfGroup}
 use Rattle.front_model.specs.Face.{Object, Buffer, Face, outline_at, view}
-use Rattle.front_model.specs.Stands.{Holds, no_hands, IsQuiet}
+use Rattle.front_model.specs.Stands.{Holds, Moved, no_hands, IsQuiet}
 use Rattle.front_model.specs.Wanted.{kind_wanted, wanted, AgreeWith, IsMapped, HasFreeNumbers}
 
 -- The objects of a front are those of a state without contents: each has its store, and the host may use each mapped buffer.
@@ -29,6 +29,10 @@ pub record Backs (f : Face) (s : Link) (group : GroupState) : Type 0 where
   pub holds : Holds f no_hands s
   pub kinds : (o : Object) → option_map (λ v. v.kind) (outline_at f o) ≡ kind_wanted group o
   pub maps : (b : ℕ) → IsMapped group b → IsQuiet f s (Buffer b)
+
+-- what is shown and quiet is as it was
+abbrev pub Stays : Face → Face → Link → Link → Type 0
+Stays f g s t = Moved g t (view f s) (outline_at f) (IsQuiet f s)
 
 -- a state whose part without contents this is, as each reached state is
 pub record IsStateOf (state : GroupModel) (group : GroupState) : Type 0 where
@@ -45,6 +49,13 @@ pub record IsCarriedOut (f g : Face) (s t : Link) (group after : GroupState) (th
   pub agrees : (state : GroupModel) (place : ℕ) → IsStateOf state group → AgreeWith (view f s) (wanted state) →
       AgreeWith (view g t) (wanted (effect state thread call place))
   pub answers : (state : GroupModel) → IsStateOf state group → AgreeWith (view f s) (wanted state) → Answers state thread call reply
+
+-- The state changed as a call says, and the objects and what is seen with it; what is answered is left open.
+pub record IsChanged (f g : Face) (s t : Link) (group after : GroupState) (thread : ℕ) (call : Call) : Type 0 where
+  pub backs : Backs g t after
+  pub state : after ≡ group_effect group thread call
+  pub agrees : (state : GroupModel) (place : ℕ) → IsStateOf state group → AgreeWith (view f s) (wanted state) →
+      AgreeWith (view g t) (wanted (effect state thread call place))
 
 -- each context has an index of the group, and no two have one
 pub record HaveIndexes (contexts : Entries Context) (serials : Entries ℕ) (group : ℕ) : Type 0 where
@@ -90,6 +101,13 @@ abbrev pub Gains : List Own → List Own → List ℕ → Type 0
 Gains old new [] = Unit {0}
 Gains old new (b ∷ bytes) = (id : ℕ) × (at : ℕ) × (new ≡ old ++ HostRead id at (b ∷ bytes) ∷ [])
 
+-- The indexes of contexts after a call on contexts: one that is created gets an index, and those of contexts that ended are dropped.
+abbrev pub IsReindexed : Call → Entries ℕ → Entries ℕ → Entries Context → Type 0
+IsReindexed (call.CreateContext number) old new contexts = (index : ℕ) × (new ≡ with_entry number index old)
+IsReindexed (call.DestroyContext number) old new contexts = new ≡ only (λ n. has n contexts) old
+IsReindexed (call.MakeCurrent number) old new contexts = new ≡ only (λ n. has n contexts) old
+IsReindexed _ old new contexts = new ≡ old
+
 -- the bytes of a reply are those of a host read that was made for it
 abbrev pub HasOrigin : Link → Link → Reply → Type 0
 HasOrigin s t (reply.Bytes bytes) = Gains s.mine t.mine bytes
@@ -119,9 +137,18 @@ is_built (call.UnmapBuffer target) = true
 is_built (call.MapRead target offset len) = true
 is_built (call.MapWrite target offset payload) = true
 is_built (call.PixelStore parameter value) = true
+is_built (call.CreateSync number) = true
+is_built (call.EglClientWaitSync number flush timeout) = true
+is_built (call.DestroySync number) = true
+is_built (call.FenceSync number condition flags) = true
+is_built (call.ClientWaitSync number flags timeout) = true
+is_built (call.WaitSync number flags end) = true
+is_built (call.DeleteSync number) = true
+is_built call.Flush = true
+is_built call.Finish = true
 is_built _ = false
 
--- the calls that write no cells: they change names, bindings, contexts, parameters and errors, or make cells undefined
+-- the calls that write no cells: they change names, bindings, contexts, syncs, parameters and errors, or make cells undefined
 abbrev pub is_of_state : Call → Bool
 is_of_state (call.CreateContext number) = true
 is_of_state (call.DestroyContext number) = true
@@ -135,4 +162,11 @@ is_of_state (call.Bind (targets.Buffer target) name) = true
 is_of_state (call.FlushMappedBufferRange target offset len) = true
 is_of_state (call.UnmapBuffer target) = true
 is_of_state (call.PixelStore parameter value) = true
+is_of_state (call.CreateSync number) = true
+is_of_state (call.DestroySync number) = true
+is_of_state (call.FenceSync number condition flags) = true
+is_of_state (call.WaitSync number flags end) = true
+is_of_state (call.DeleteSync number) = true
+is_of_state call.Flush = true
+is_of_state call.Finish = true
 is_of_state _ = false

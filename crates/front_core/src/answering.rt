@@ -4,18 +4,21 @@ ghost use Rattle.vk_device.specs.Faults.{HasCause};
 ghost use Rattle.gl_model.specs.Refusal.{refusal};
 ghost use Rattle.front_model.specs.Stands.{Owns};
 ghost use Rattle.front_moves.specs.Core.{face};
-ghost use Rattle.front_core.specs.Answering.{changes_contexts, reaches_buffers};
-ghost use Rattle.front_core.specs.Share.{MayCall, IsCarriedOut, HaveIndexes, HasOrigin, is_built, is_map_read, replaced_by};
-ghost use Rattle.front_core.specs.Front.{MayAnswer, IsAnswered};
+ghost use Rattle.front_core.specs.Answering.{changes_contexts, reaches_buffers, reaches_syncs};
+ghost use Rattle.front_core.specs.Share.{MayCall, IsCarriedOut, HaveIndexes, HasOrigin, IsReindexed, is_built, is_map_read};
+ghost use Rattle.front_core.specs.Front.{MayAnswer, MayServe, IsServed, IsAnswered};
+ghost use Rattle.front_core.specs.Polls.{Polls, Flushes};
 ghost use Rattle.back_core.specs.Frame.{ActsAtBack};
-ghost use Rattle.front_core.specs.Economy.{upload_due, IsTrueReason, MayHandOver, due_of, waits_of, may_wait};
+ghost use Rattle.front_core.specs.Economy.{upload_due, IsTrueReason, HasTrueReason, MayHandOver, due_of, waits_of, may_wait};
 
 use crate::answers_come_to::answers_come_to;
 use crate::share::Share;
+use crate::syncs_come_to::syncs_come_to;
 use back_core::BackLink;
 use gl_calls::{Call, Reply};
 use gl_errors::{Decision, decide};
 use gl_state::refuse;
+use sync_serials::SyncSerials;
 use vk_types::Stop;
 
 /// Whether a call creates, destroys or takes a context.
@@ -43,20 +46,40 @@ fn reaches_buffers(call: &Call) -> bool
     )
 }
 
+/// Whether a call makes, ends, asks for or waits for a sync, or flushes.
+fn reaches_syncs(call: &Call) -> bool
+    ensures { result ≡ reaches_syncs call.now }
+{
+    matches!(
+        call,
+        Call::CreateSync { .. }
+            | Call::EglClientWaitSync { .. }
+            | Call::DestroySync { .. }
+            | Call::FenceSync { .. }
+            | Call::ClientWaitSync { .. }
+            | Call::WaitSync { .. }
+            | Call::DeleteSync { .. }
+            | Call::Flush
+            | Call::Finish
+    )
+}
+
 impl Share {
     /// Carries out a call that creates, destroys or takes a context.
     fn context_call<L: BackLink>(
         &mut self,
         link: &mut L,
+        syncs: &SyncSerials,
         thread: u32,
         call: &Call,
     ) -> Result<Reply, Stop>
         requires which { changes_contexts call.now ≡ true }
         requires indexes { HaveIndexes self.old.state.contexts self.old.serials (face self.old.core).group }
-        requires may { MayCall (face self.old.core) (L.state link.old) self.old.state thread call.now }
+        requires may { MayServe (face self.old.core) (L.state link.old) self.old.state self.old.serials syncs.now thread call.now }
         ensures done { IfOk result (λ reply. IsCarriedOut (face self.old.core) (face self.new.core) (L.state link.old) (L.state link.new) self.old.state self.new.state thread call.now reply) }
         ensures indexes { OnOk result (HaveIndexes self.new.state.contexts self.new.serials (face self.new.core).group) }
-        ensures flushed { OnOk result (IfSome (replaced_by self.old.state self.old.serials thread call.now) (λ i. (face self.new.core).pending i ≡ [])) }
+        ensures reindexed { OnOk result (IsReindexed call.now self.old.serials self.new.serials self.new.state.contexts) }
+        ensures flushes { IfOk result (λ reply. Flushes self.old.state self.old.serials syncs.now thread call.now (face self.new.core) (L.state link.new) reply) }
         ensures group { (face self.new.core).group ≡ (face self.old.core).group }
         ensures err { OnErr result (Owns (face self.new.core).objects (L.state link.new)) }
         ensures cause { HasCause (L.faults link.old) (L.faults link.new) result }
@@ -66,7 +89,7 @@ impl Share {
         match call {
             Call::CreateContext { number } => self.create_context(link, thread, *number),
             Call::DestroyContext { number } => self.destroy_context(link, thread, *number),
-            Call::MakeCurrent { number } => self.make_current(link, thread, *number),
+            Call::MakeCurrent { number } => self.make_current(link, syncs, thread, *number),
             _ => unreachable!(),
         }
     }
@@ -138,6 +161,7 @@ impl Share {
     ) -> Result<Reply, Stop>
         requires which { is_built call.now ≡ true }
         requires others { changes_contexts call.now ≡ false }
+        requires no_syncs { reaches_syncs call.now ≡ false }
         requires indexes { HaveIndexes self.old.state.contexts self.old.serials (face self.old.core).group }
         requires may { MayCall (face self.old.core) (L.state link.old) self.old.state thread call.now }
         ensures done { IfOk result (λ reply. IsCarriedOut (face self.old.core) (face self.new.core) (L.state link.old) (L.state link.new) self.old.state self.new.state thread call.now reply) }
@@ -160,24 +184,34 @@ impl Share {
     pub(crate) fn carry_out<L: BackLink>(
         &mut self,
         link: &mut L,
+        syncs: &mut SyncSerials,
         thread: u32,
         call: &Call,
     ) -> Result<Reply, Stop>
         requires built { is_built call.now ≡ true }
         requires indexes { HaveIndexes self.old.state.contexts self.old.serials (face self.old.core).group }
-        requires may { MayCall (face self.old.core) (L.state link.old) self.old.state thread call.now }
-        ensures done { IfOk result (λ reply. IsCarriedOut (face self.old.core) (face self.new.core) (L.state link.old) (L.state link.new) self.old.state self.new.state thread call.now reply) }
+        requires may { MayServe (face self.old.core) (L.state link.old) self.old.state self.old.serials syncs.old thread call.now }
+        ensures done { IfOk result (λ reply. IsServed (face self.old.core) (face self.new.core) (L.state link.old) (L.state link.new) self.old.state self.new.state
+            self.old.serials self.new.serials syncs.old syncs.new thread call.now reply) }
         ensures indexes { OnOk result (HaveIndexes self.new.state.contexts self.new.serials (face self.new.core).group) }
         ensures origin { IfOk result (λ reply. is_map_read call.now ≡ true → HasOrigin (L.state link.old) (L.state link.new) reply) }
-        ensures flushed { OnOk result (IfSome (replaced_by self.old.state self.old.serials thread call.now) (λ i. (face self.new.core).pending i ≡ [])) }
+        ensures polls { IfOk result (λ reply. Polls syncs.old (L.state link.old) (L.state link.new) call.now reply) }
+        ensures flushes { IfOk result (λ reply. Flushes self.old.state self.old.serials syncs.old thread call.now (face self.new.core) (L.state link.new) reply) }
         ensures group { (face self.new.core).group ≡ (face self.old.core).group }
         ensures err { OnErr result (Owns (face self.new.core).objects (L.state link.new)) }
         ensures cause { HasCause (L.faults link.old) (L.faults link.new) result }
         ensures at_back { ActsAtBack L.state L.told link.old link.new (upload_due self.old.state thread call.now) (may_wait call.now) (is_err result)
-            (IsTrueReason (face self.old.core) self.old.state self.old.serials thread call.now) }
+            (HasTrueReason (face self.old.core) self.old.state self.old.serials syncs.old thread call.now) }
     {
+        syncs_come_to();
+        if reaches_syncs(call) {
+            return match self.sync_call(link, syncs, thread, call) {
+                Ok(reply) => Ok(reply),
+                Err(stop) => Err(stop),
+            };
+        }
         if changes_contexts(call) {
-            return match self.context_call(link, thread, call) {
+            return match self.context_call(link, syncs, thread, call) {
                 Ok(reply) => Ok(reply),
                 Err(stop) => Err(stop),
             };
@@ -192,21 +226,25 @@ impl Share {
     pub(crate) fn answer<L: BackLink>(
         &mut self,
         link: &mut L,
+        syncs: &mut SyncSerials,
         thread: u32,
         call: &Call,
     ) -> Result<Reply, Stop>
         requires built { is_built call.now ≡ true }
         requires indexes { HaveIndexes self.old.state.contexts self.old.serials (face self.old.core).group }
-        requires may { MayAnswer (face self.old.core) (L.state link.old) self.old.state thread call.now }
-        ensures done { IfOk result (λ reply. IsAnswered (face self.old.core) (face self.new.core) (L.state link.old) (L.state link.new) self.old.state self.new.state thread call.now reply) }
+        requires may { MayAnswer (face self.old.core) (L.state link.old) self.old.state self.old.serials syncs.old thread call.now }
+        ensures done { IfOk result (λ reply. IsAnswered (face self.old.core) (face self.new.core) (L.state link.old) (L.state link.new) self.old.state self.new.state
+            self.old.serials self.new.serials syncs.old syncs.new thread call.now reply) }
         ensures indexes { OnOk result (HaveIndexes self.new.state.contexts self.new.serials (face self.new.core).group) }
         ensures origin { IfOk result (λ reply. is_map_read call.now ≡ true → refusal self.old.state thread call.now ≡ None → HasOrigin (L.state link.old) (L.state link.new) reply) }
-        ensures flushed { OnOk result (refusal self.old.state thread call.now ≡ None → IfSome (replaced_by self.old.state self.old.serials thread call.now) (λ i. (face self.new.core).pending i ≡ [])) }
+        ensures polls { IfOk result (λ reply. refusal self.old.state thread call.now ≡ None → Polls syncs.old (L.state link.old) (L.state link.new) call.now reply) }
+        ensures flushes { IfOk result (λ reply. refusal self.old.state thread call.now ≡ None →
+            Flushes self.old.state self.old.serials syncs.old thread call.now (face self.new.core) (L.state link.new) reply) }
         ensures group { (face self.new.core).group ≡ (face self.old.core).group }
         ensures err { OnErr result (Owns (face self.new.core).objects (L.state link.new)) }
         ensures cause { HasCause (L.faults link.old) (L.faults link.new) result }
         ensures at_back { ActsAtBack L.state L.told link.old link.new (due_of self.old.state thread call.now) (waits_of self.old.state thread call.now) (is_err result)
-            (MayHandOver (face self.old.core) self.old.state self.old.serials thread call.now) }
+            (MayHandOver (face self.old.core) self.old.state self.old.serials syncs.old thread call.now) }
     {
         answers_come_to();
         match decide(self.state.group(), thread, call) {
@@ -214,7 +252,7 @@ impl Share {
                 refuse(&mut self.state, thread, call, &reply);
                 Ok(reply)
             }
-            Decision::Accepted => match self.carry_out(link, thread, call) {
+            Decision::Accepted => match self.carry_out(link, syncs, thread, call) {
                 Ok(reply) => Ok(reply),
                 Err(stop) => Err(stop),
             },

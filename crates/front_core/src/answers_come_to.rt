@@ -7,18 +7,21 @@ ghost use Rattle.gl_model.specs.Legal.{refused_group};
 ghost use Rattle.gl_model.specs.Refusal.{refusal};
 ghost use Rattle.back_core.specs.Link.{Link};
 ghost use Rattle.front_model.specs.Face.{Face};
-ghost use Rattle.front_core.specs.Share.{IsCarriedOut};
-ghost use Rattle.front_core.specs.Front.{MayAnswer, IsAnswered};
+ghost use Rattle.tables.specs.Table.{Entries};
+ghost use Rattle.sync_serials.specs.Serials.{SyncTables};
+ghost use Rattle.front_core.specs.Front.{MayAnswer, IsServed, IsAnswered};
 
 use front_model::{calls_keep_agreement, calls_keep_stores};
+use sync_serials::syncs_stand_on;
 
 /// A call that is refused or was carried out was answered.
 pub(crate) fn answers_come_to()
-    ensures refused { (f : Face) (s : Link) (group : GroupState) (thread : ℕ) (asked : Call) (answer : Reply) → MayAnswer f s group thread asked → refusal group thread asked ≡ Some answer →
-        IsAnswered f f s s group (refused_group group thread answer) thread asked answer }
-    ensures accepted { (f g : Face) (s t : Link) (group after : GroupState) (thread : ℕ) (asked : Call) (answer : Reply) → refusal group thread asked ≡ None →
-        IsCarriedOut f g s t group after thread asked answer → IsAnswered f g s t group after thread asked answer }
+    ensures refused { (f : Face) (s : Link) (group : GroupState) (serials : Entries ℕ) (tables : SyncTables) (thread : ℕ) (asked : Call) (answer : Reply) → MayAnswer f s group serials tables thread asked → refusal group thread asked ≡ Some answer →
+        IsAnswered f f s s group (refused_group group thread answer) serials serials tables tables thread asked answer }
+    ensures accepted { (f g : Face) (s t : Link) (group after : GroupState) (serials later : Entries ℕ) (tables now : SyncTables) (thread : ℕ) (asked : Call) (answer : Reply) → refusal group thread asked ≡ None →
+        IsServed f g s t group after serials later tables now thread asked answer → IsAnswered f g s t group after serials later tables now thread asked answer }
 {
     calls_keep_agreement();
     calls_keep_stores();
+    syncs_stand_on();
 }

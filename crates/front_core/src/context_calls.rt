@@ -1,12 +1,13 @@
 // The calls that create, destroy and take contexts: each context has an index for its batches.
-ghost use Rattle.std.specs.Prelude.{◌≡◌, ℕ, ◌*◌, ◌==◌, ◌<◌, ◌≤◌, true, false, [], IfOk, IfSome, IfNone, OnOk, OnErr, is_err};
+ghost use Rattle.std.specs.Prelude.{◌≡◌, ℕ, ◌+◌, ◌*◌, ◌==◌, ◌<◌, ◌≤◌, true, false, IfOk, IfSome, IfNone, OnOk, OnErr, is_err};
 ghost use Rattle.vk_device.specs.Faults.{HasCause};
 ghost use Rattle.tables.specs.Table.{any_value, has, only, with_entry, IsOrdered};
 ghost use Rattle.back_core.specs.Needs.{IsOfGroup};
-ghost use Rattle.front_model.specs.Face.{outline_at, view};
-ghost use Rattle.front_model.specs.Stands.{Holds, Owns, Moved, IsQuiet, no_hands};
+ghost use Rattle.front_model.specs.Stands.{Holds, Owns, no_hands};
 ghost use Rattle.front_moves.specs.Core.{face};
-ghost use Rattle.front_core.specs.Share.{MayCall, IsCarriedOut, HaveIndexes, IsLowestFree, replaced_index};
+ghost use Rattle.front_core.specs.Share.{MayCall, Stays, IsCarriedOut, HaveIndexes, IsLowestFree, replaced_index};
+ghost use Rattle.front_core.specs.Polls.{HasFlushedAll};
+ghost use Rattle.sync_serials.specs.Serials.{newest_of};
 ghost use Rattle.back_core.specs.Frame.{ActsAtBack, NoBatch};
 ghost use Rattle.front_core.specs.Economy.{IsTrueReason, IsSwitch};
 
@@ -16,6 +17,7 @@ use back_core::BackLink;
 use gl_calls::{Call, Reply};
 use gl_model::Context;
 use gl_state::current_number;
+use sync_serials::SyncSerials;
 use tables::Table;
 use vk_types::{Reason, SerialIndex, Stop};
 
@@ -65,11 +67,19 @@ impl Share {
     }
 
     /// Hands what the context that a thread gives up recorded to the back.
-    fn switch<L: BackLink>(&mut self, link: &mut L, thread: u32, number: u32) -> Result<(), Stop>
+    fn switch<L: BackLink>(
+        &mut self,
+        link: &mut L,
+        syncs: &SyncSerials,
+        thread: u32,
+        number: u32,
+    ) -> Result<(), Stop>
         requires indexes { HaveIndexes self.old.state.contexts self.old.serials (face self.old.core).group }
         requires holds { Holds (face self.old.core) no_hands (L.state link.old) }
-        ensures moved { OnOk result (Moved (face self.new.core) (L.state link.new) (view (face self.old.core) (L.state link.old)) (outline_at (face self.old.core)) (IsQuiet (face self.old.core) (L.state link.old))) }
-        ensures flushed { OnOk result (IfSome (replaced_index self.old.state self.old.serials thread number) (λ i. (face self.new.core).pending i ≡ [])) }
+        requires tables { syncs.now.group ≡ (face self.old.core).group }
+        requires newest { (i : ℕ) → IsOfGroup (face self.old.core).group i → newest_of syncs.now i ≤ (face self.old.core).last i + 1 }
+        ensures moved { OnOk result (Stays (face self.old.core) (face self.new.core) (L.state link.old) (L.state link.new)) }
+        ensures flushed { OnOk result (IfSome (replaced_index self.old.state self.old.serials thread number) (HasFlushedAll (face self.new.core) syncs.now)) }
         ensures state { self.new.state ≡ self.old.state }
         ensures serials { self.new.serials ≡ self.old.serials }
         ensures group { (face self.new.core).group ≡ (face self.old.core).group }
@@ -78,7 +88,7 @@ impl Share {
         ensures at_back { ActsAtBack L.state L.told link.old link.new 0 false (is_err result) (IsSwitch self.old.state self.old.serials thread number) }
     {
         match self.given_up(thread, number) {
-            Some(index) => self.core.flush(link, index, Reason::Switch),
+            Some(index) => self.flush_context(link, syncs, index, Reason::Switch),
             None => Ok(()),
         }
     }
@@ -124,6 +134,7 @@ impl Share {
         requires may { MayCall (face self.old.core) (L.state link.old) self.old.state thread (Call.DestroyContext number) }
         ensures done { IfOk result (λ reply. IsCarriedOut (face self.old.core) (face self.new.core) (L.state link.old) (L.state link.new) self.old.state self.new.state thread (Call.DestroyContext number) reply) }
         ensures indexes { OnOk result (HaveIndexes self.new.state.contexts self.new.serials (face self.new.core).group) }
+        ensures left { OnOk result (self.new.serials ≡ only (λ n. has n self.new.state.contexts) self.old.serials) }
         ensures group { (face self.new.core).group ≡ (face self.old.core).group }
         ensures err { OnErr result (Owns (face self.new.core).objects (L.state link.new)) }
         ensures cause { HasCause (L.faults link.old) (L.faults link.new) result }
@@ -143,21 +154,25 @@ impl Share {
     pub(crate) fn make_current<L: BackLink>(
         &mut self,
         link: &mut L,
+        syncs: &SyncSerials,
         thread: u32,
         number: u16,
     ) -> Result<Reply, Stop>
         requires indexes { HaveIndexes self.old.state.contexts self.old.serials (face self.old.core).group }
         requires may { MayCall (face self.old.core) (L.state link.old) self.old.state thread (Call.MakeCurrent number) }
+        requires tables { syncs.now.group ≡ (face self.old.core).group }
+        requires newest { (i : ℕ) → IsOfGroup (face self.old.core).group i → newest_of syncs.now i ≤ (face self.old.core).last i + 1 }
         ensures done { IfOk result (λ reply. IsCarriedOut (face self.old.core) (face self.new.core) (L.state link.old) (L.state link.new) self.old.state self.new.state thread (Call.MakeCurrent number) reply) }
         ensures indexes { OnOk result (HaveIndexes self.new.state.contexts self.new.serials (face self.new.core).group) }
-        ensures flushed { OnOk result (IfSome (replaced_index self.old.state self.old.serials thread number) (λ i. (face self.new.core).pending i ≡ [])) }
+        ensures left { OnOk result (self.new.serials ≡ only (λ n. has n self.new.state.contexts) self.old.serials) }
+        ensures flushed { OnOk result (IfSome (replaced_index self.old.state self.old.serials thread number) (HasFlushedAll (face self.new.core) syncs.now)) }
         ensures group { (face self.new.core).group ≡ (face self.old.core).group }
         ensures err { OnErr result (Owns (face self.new.core).objects (L.state link.new)) }
         ensures cause { HasCause (L.faults link.old) (L.faults link.new) result }
         ensures at_back { ActsAtBack L.state L.told link.old link.new 0 false (is_err result)
             (IsTrueReason (face self.old.core) self.old.state self.old.serials thread (Call.MakeCurrent number)) }
     {
-        match self.switch(link, thread, u32::from(number)) {
+        match self.switch(link, syncs, thread, u32::from(number)) {
             Ok(()) => match self.state_call(link, thread, &Call::MakeCurrent { number }) {
                 Ok(reply) => {
                     drop_indexes(&mut self.serials, &self.state.group().contexts);

@@ -6,7 +6,8 @@ ghost use Rattle.gl_model.specs.Refusal.{refusal};
 ghost use Rattle.gl_model.specs.Sizes.{HasItsData};
 ghost use Rattle.front_model.specs.Stands.{Owns};
 ghost use Rattle.front_moves.specs.Core.{face};
-ghost use Rattle.front_core.specs.Share.{HasOrigin, is_built, is_map_read, replaced_by};
+ghost use Rattle.front_core.specs.Share.{HasOrigin, is_built, is_map_read};
+ghost use Rattle.front_core.specs.Polls.{Polls, Flushes};
 ghost use Rattle.front_core.specs.Front.{FrontStands, IsNewFront, HasAnswered, HasStopped, IsClosed, entry_of};
 ghost use Rattle.back_core.specs.Frame.{ActsAtBack, NoBatch};
 ghost use Rattle.front_moves.specs.Reasons.{IsEnding};
@@ -20,12 +21,14 @@ use gl_calls::{Call, Entry, Reply};
 use gl_state::SharedState;
 use std::alloc::{AllocError, Global};
 use std::marker::Model;
+use sync_serials::SyncSerials;
 use tables::Table;
 use vk_types::Stop;
 
 /// One share group: what it has on the device, its state, and the calls that were answered. A front is to be ended by `abandon`.
 pub struct Front {
     share: Share,
+    syncs: SyncSerials,
     threads: Vec<u32>,
     history: Vec<Entry>,
     stopped: bool,
@@ -37,7 +40,7 @@ impl Model for Front {
 
     ghost Value = { FrontModel };
 
-    ghost view = { λ f. record { core = f.share.core; state = f.share.state; serials = f.share.serials; threads = f.threads.items; history = f.history.items; stopped = f.stopped; closed = f.closed } };
+    ghost view = { λ f. record { core = f.share.core; state = f.share.state; serials = f.share.serials; syncs = f.syncs; threads = f.threads.items; history = f.history.items; stopped = f.stopped; closed = f.closed } };
 }
 
 /// A copy of a call, and room in a history for its entry.
@@ -90,6 +93,7 @@ impl Front {
                 state,
                 serials: Table::new(alloc),
             },
+            syncs: SyncSerials::new(alloc, group),
             threads,
             history: Vec::new(alloc),
             stopped: false,
@@ -112,11 +116,13 @@ impl Front {
         requires its_data { HasItsData call.now }
         ensures ok { IfOk result (λ reply. HasAnswered self.old self.new (L.state link.new) thread line call.now reply) }
         ensures origin { IfOk result (λ reply. is_map_read call.now ≡ true → refusal self.old.state thread call.now ≡ None → HasOrigin (L.state link.old) (L.state link.new) reply) }
-        ensures flushed { OnOk result (refusal self.old.state thread call.now ≡ None → IfSome (replaced_by self.old.state self.old.serials thread call.now) (λ i. (face self.new.core).pending i ≡ [])) }
+        ensures polls { IfOk result (λ reply. refusal self.old.state thread call.now ≡ None → Polls self.old.syncs (L.state link.old) (L.state link.new) call.now reply) }
+        ensures flushes { IfOk result (λ reply. refusal self.old.state thread call.now ≡ None →
+            Flushes self.old.state self.old.serials self.old.syncs thread call.now (face self.new.core) (L.state link.new) reply) }
         ensures err { OnErr result (HasStopped self.old self.new (L.state link.new)) }
         ensures cause { HasCause (L.faults link.old) (L.faults link.new) result }
         ensures at_back { ActsAtBack L.state L.told link.old link.new (due_of self.old.state thread call.now) (waits_of self.old.state thread call.now) (is_err result)
-            (MayHandOver (face self.old.core) self.old.state self.old.serials thread call.now) }
+            (MayHandOver (face self.old.core) self.old.state self.old.serials self.old.syncs thread call.now) }
     {
         histories_come_to();
         self.share.state.objects_are_referred_to();
@@ -124,7 +130,7 @@ impl Front {
             self.stopped = true;
             return Err(Stop::Memory);
         };
-        let reply = match self.share.answer(link, thread, call) {
+        let reply = match self.share.answer(link, &mut self.syncs, thread, call) {
             Ok(reply) => reply,
             Err(stop) => {
                 self.stopped = true;
@@ -170,11 +176,17 @@ impl Front {
         ensures at_back { ActsAtBack L.state L.told link.old link.new 0 false (is_err result) IsEnding }
     {
         histories_come_to();
-        match self.share.core.close(link) {
-            Ok(()) => {
-                self.closed = true;
-                Ok(())
-            }
+        match self.share.flush_all(link, &self.syncs) {
+            Ok(()) => match self.share.core.close(link) {
+                Ok(()) => {
+                    self.closed = true;
+                    Ok(())
+                }
+                Err(stop) => {
+                    self.stopped = true;
+                    Err(stop)
+                }
+            },
             Err(stop) => {
                 self.stopped = true;
                 Err(stop)
@@ -192,6 +204,7 @@ impl Front {
     {
         let Front {
             share,
+            syncs: _,
             threads: _,
             history,
             stopped: _,

@@ -9,6 +9,7 @@ ghost use Rattle.front_core.specs.Front.{FrontModel, FrontStands};
 
 use front_model::{link_steps_show, quiet_objects_stay, steps_hold};
 use gl_model::group_is_a_projection;
+use sync_serials::syncs_stand_on;
 
 /// A front goes on standing where its group only learned how far the back is.
 pub fn fronts_go_on_standing()
@@ -17,6 +18,7 @@ pub fn fronts_go_on_standing()
     steps_hold();
     link_steps_show();
     quiet_objects_stay();
+    syncs_stand_on();
 }
 
 /// The bytes that are due over a history grow by those that are due for its next call.

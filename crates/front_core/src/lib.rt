@@ -9,6 +9,7 @@ mod copy_calls;
 mod copy_calls_come_to;
 mod data_calls;
 mod data_calls_come_to;
+mod fence_calls;
 mod front;
 mod histories_come_to;
 mod laws;
@@ -16,6 +17,8 @@ mod map_calls;
 mod share;
 mod state_calls;
 mod state_calls_come_to;
+mod sync_calls;
+mod syncs_come_to;
 
 pub use front::Front;
 pub use laws::{dues_grow, fronts_go_on_standing};

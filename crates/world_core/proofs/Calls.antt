@@ -223,7 +223,7 @@ module _ (law : (h : List BackEvent) (g : ℕ) → (link_of h g).group ≡ g) (f
   pub asked_from : (thread : ℕ) (line : Line) (reply : Reply) → HasAnswered before after (link_of k n) thread line.number line.call reply →
       AtBack (link_of h g) (link_of k n) (Some h) (Some k) (due_of before.state thread line.call)
       (waits_of before.state thread line.call) false
-      (MayHandOver (face before.core) before.state before.serials thread line.call) →
+      (MayHandOver (face before.core) before.state before.serials before.syncs thread line.call) →
       HasAsked fronts (slice_set fronts i after) h k g thread line
   asked_from thread line reply answered at_back = record {
     fronts = replaces;
@@ -231,7 +231,7 @@ module _ (law : (h : List BackEvent) (g : ℕ) → (link_of h g).group ≡ g) (f
     answered = subst (λ (m : ℕ). HasAnswered before after (link_of k m) thread line.number line.call reply) (group_is at_back) answered;
     at_back = subst (λ (m : ℕ). AtBack (link_of h g) (link_of k m) (Some h) (Some k) (due_of before.state thread line.call)
         (waits_of before.state thread line.call) false
-        (MayHandOver (face before.core) before.state before.serials thread line.call)) (group_is at_back) at_back;
+        (MayHandOver (face before.core) before.state before.serials before.syncs thread line.call)) (group_is at_back) at_back;
   }
 
   pub broken_from : {due : ℕ} {waits stops : Bool} {MayHand : Batch → Type 0} → HasStopped before after (link_of k n) →

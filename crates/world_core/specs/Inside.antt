@@ -155,7 +155,7 @@ pub record HasAsked (old new : List FrontModel) (h k : List BackEvent) (group th
   pub answered : HasAnswered fronts.before fronts.after (link_of k group) thread line.number line.call reply
   pub at_back : AtBack (link_of h group) (link_of k group) (Some h) (Some k) (due_of fronts.before.state thread line.call)
       (waits_of fronts.before.state thread line.call) false
-      (MayHandOver (face fronts.before.core) fronts.before.state fronts.before.serials thread line.call)
+      (MayHandOver (face fronts.before.core) fronts.before.state fronts.before.serials fronts.before.syncs thread line.call)
 
 -- the front of a group was stopped
 pub record HasBroken (old new : List FrontModel) (h k : List BackEvent) (group : ℕ) : Type 0 where

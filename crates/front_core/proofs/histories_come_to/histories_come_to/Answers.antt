@@ -1,13 +1,15 @@
-use Rattle.std.proofs.Common.{◌≡◌, true, [], ◌∷◌, ◌++◌, length, refl, sym, ◌∙◌, ap, subst}
+use Rattle.std.proofs.Common.{◌≡◌, ◌+◌, true, [], ◌∷◌, ◌++◌, length, refl, sym, ◌∙◌, ap, subst}
+use Rattle.std.proofs.lemmas.List.{length-append}
 use Rattle.gl_calls.specs.declared.reply.Entry.{Entry}
 use Rattle.tables.specs.Table.{has}
 use Rattle.gl_model.specs.declared.state.GroupState.{GroupState}
-use Rattle.gl_model.specs.GroupModel.{GroupModel}
+use Rattle.gl_model.specs.GroupModel.{GroupModel, opening}
 use Rattle.gl_model.specs.Legal.{after_entry}
 use Rattle.gl_model.specs.Reached.{reached, group_after}
 use Rattle.front_model.specs.Stands.{no_hands}
 use Rattle.front_model.specs.Wanted.{kind_wanted, IsMapped, HasFreeNumbers, Stands}
 use Rattle.front_moves.specs.Core.{face}
+use Rattle.sync_serials.specs.Serials.{SyncsStand, no_syncs}
 use Rattle.front_core.specs.Share.{IsStateOf}
 use Rattle.front_core.specs.Front.{entry_of}
 use Rattle.front_core.proofs.Histories.{data_of_each}
@@ -25,6 +27,7 @@ returns-clause-begins c core group threads holds = record {
     group_is = refl;
     stands = opening_stands (face core) s threads (holds s is_new) (nothing_stored (face core) group holds);
     indexes = no_indexes (face core).group;
+    serials_stand = subst (λ g. SyncsStand (face core) s [] (no_syncs g) (opening threads) 0) (of_this_group (face core) group holds) (c.syncs_stand_on.ensures.begins (face core) s threads);
     declared = threads_begin threads;
   };
   of_group = of_this_group (face core) group holds;
@@ -33,7 +36,7 @@ returns-clause-begins c core group threads holds = record {
 }
 
 pub returns-clause-answered : goal.returns-clause-answered
-returns-clause-answered c f s t core after serials thread line asked answer stands its_data referred is indexes =
+returns-clause-answered c f s t core after serials syncs thread line asked answer stands its_data referred is indexes =
     let e : Entry = entry_of thread line asked answer in
     let state : GroupModel = reached f.threads f.history in
     let is_state : IsStateOf state f.state = record {
@@ -55,11 +58,13 @@ returns-clause-answered c f s t core after serials thread line asked answer stan
     record {
       running = stands.running;
       open_still = stands.open_still;
-      legal = c.legal_histories_go_on.ensures.goes_on f.threads f.history e stands.legal (is.step state line is_state stands.stands.agreement);
+      legal = c.legal_histories_go_on.ensures.goes_on f.threads f.history e stands.legal (is.step state line (length f.history) is_state stands.serials_stand stands.stands.agreement);
       its_data = data_of_each f.history e stands.its_data its_data;
       group_is = ap (λ (m : GroupModel). m.group) state_is ∙ group_is;
       stands = subst (Stands (face core) t) (sym state_is) now_stands;
       indexes = indexes;
+      serials_stand = subst (λ n. SyncsStand (face core) t serials syncs (reached f.threads (f.history ++ e ∷ [])) n) (sym (length-append f.history (e ∷ [])))
+          (subst (λ (m : GroupModel). SyncsStand (face core) t serials syncs m (length f.history + 1)) (sym state_is) (is.syncs state line (length f.history) is_state stands.serials_stand));
       declared = λ one there. subst (λ (g : GroupState). has one g.threads ≡ true) (sym (is.state line)) (threads_stay f.state e one (stands.declared one there));
     }
 
@@ -68,3 +73,23 @@ returns-clause-owns c f s holds = c.steps_may.ensures.owns f no_hands s holds
 
 pub returns-clause-closed : goal.returns-clause-closed
 returns-clause-closed c f s has_closed = none_owned f s has_closed.none_stored
+
+pub returns-clause-may : goal.returns-clause-may
+returns-clause-may c f s thread asked stands declared its_data referred = record {
+  backs = record {
+    holds = stands.stands.holds;
+    kinds = λ o. stands.stands.kinds o ∙ ap (λ (g : GroupState). kind_wanted g o) stands.group_is;
+    maps = λ b mapped. stands.stands.maps b (subst (λ (g : GroupState). IsMapped g b) (sym stands.group_is) mapped);
+  };
+  declared = stands.declared thread declared;
+  model = reached f.threads f.history;
+  is = record {
+    group_is = stands.group_is;
+    sizes = c.buffers_have_their_sizes.ensures.reached f.threads f.history stands.its_data;
+    free = subst HasFreeNumbers stands.group_is (c.numbers_not_given_are_free.ensures.reached f.threads f.history);
+    referred = referred;
+  };
+  its_data = its_data;
+  place = length f.history;
+  syncs = stands.serials_stand;
+}

@@ -1,4 +1,4 @@
-use Rattle.std.proofs.Common.{◌≡◌, ◌+◌, sym, ◌∙◌, ap, refl}
+use Rattle.std.proofs.Common.{◌+◌, sym, ◌∙◌, ap}
 use Rattle.gl_model.specs.declared.state.GroupState.{GroupState}
 use Rattle.gl_model.specs.GroupState.{opening_group}
 use Rattle.front_core.specs.Economy.{due_of, due_from}

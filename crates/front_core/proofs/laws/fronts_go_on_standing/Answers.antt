@@ -1,4 +1,4 @@
-use Rattle.std.proofs.Common.{sym, subst}
+use Rattle.std.proofs.Common.{sym, subst, refl, arith, length}
 use Rattle.gl_model.specs.Reached.{reached}
 use Rattle.front_model.specs.Face.{Buffer}
 use Rattle.front_model.specs.Stands.{no_hands}
@@ -20,5 +20,7 @@ returns c f s t stands learns = record {
     maps = λ b mapped. c.quiet_objects_stay.ensures.learns (face f.core) s t (Buffer b) learns (stands.stands.maps b mapped);
   };
   indexes = stands.indexes;
+  serials_stand = c.syncs_stand_on.ensures.goes_on (face f.core) (face f.core) s t f.serials f.syncs (reached f.threads f.history) (length f.history) stands.serials_stand
+      (record { group = refl; last = λ i. omega arith; done = learns.rises });
   declared = stands.declared;
 }

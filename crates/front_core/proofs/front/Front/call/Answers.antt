@@ -25,7 +25,7 @@ pub answer-requires-clause-may : goal.answer-requires-clause-may
 answer-requires-clause-may g c =
     let f : FrontModel = c.args.self.now in
     let referred : swept f.state ≡ f.state = subst (λ (x : FrontModel). swept x.state ≡ x.state) c.self.view_is c.objects_are_referred_to.ensures in
-    subst (λ (x : FrontModel). MayAnswer (face x.core) (g.L.BackLink.state c.args.link.now) x.state c.args.thread c.args.call.now) (sym c.self.view_is)
+    subst (λ (x : FrontModel). MayAnswer (face x.core) (g.L.BackLink.state c.args.link.now) x.state x.serials x.syncs c.args.thread c.args.call.now) (sym c.self.view_is)
     (c.histories_come_to.ensures.may f (g.L.BackLink.state c.args.link.now) c.args.thread c.args.call.now c.requires.stands c.requires.declared c.requires.its_data referred)
 
 pub returns-in-Ok-note-clause-ok : goal.returns-in-Ok-note-clause-ok
@@ -35,16 +35,16 @@ returns-in-Ok-note-clause-ok g c =
     let t = g.L.BackLink.state c.answer.new.link in
     let e : Entry = entry_of c.args.thread c.args.line c.args.call.now c.in-Ok-note.reply in
     let stands : FrontStands f s = subst (λ (x : FrontModel). FrontStands x s) (sym c.self.view_is) c.requires.stands in
-    let answered : IsAnswered (face f.core) (face c.answer.new.self.core) s t f.state c.answer.new.self.state c.args.thread c.args.call.now c.in-Ok-note.reply
-    = subst (λ (r : Reply). IsAnswered (face f.core) (face c.answer.new.self.core) s t f.state c.answer.new.self.state c.args.thread c.args.call.now r) (sym c.in-Ok-note.ensures.reply) c.in-Ok-answer.ensures.done in
+    let answered : IsAnswered (face f.core) (face c.answer.new.self.core) s t f.state c.answer.new.self.state f.serials c.answer.new.self.serials f.syncs c.answer.new.syncs c.args.thread c.args.call.now c.in-Ok-note.reply
+    = subst (λ (r : Reply). IsAnswered (face f.core) (face c.answer.new.self.core) s t f.state c.answer.new.self.state f.serials c.answer.new.self.serials f.syncs c.answer.new.syncs c.args.thread c.args.call.now r) (sym c.in-Ok-note.ensures.reply) c.in-Ok-answer.ensures.done in
     let history : c.note.new.history.items ≡ f.history ++ e ∷ []
     = c.in-Ok-note.ensures.ok
     ∙ ap (λ (h : List Entry). h ++ entry_of c.args.thread c.args.line c.in-Ok.asked c.in-Ok-answer.reply ∷ []) c.prepared.ensures.items
     ∙ ap (λ (a : Call). f.history ++ entry_of c.args.thread c.args.line a c.in-Ok-answer.reply ∷ []) c.in-Ok.ensures.copy
     ∙ ap (λ (r : Reply). f.history ++ entry_of c.args.thread c.args.line c.args.call.now r ∷ []) (sym c.in-Ok-note.ensures.reply) in
     record {
-      stands = subst (λ (h : List Entry). FrontStands (record f { core = c.answer.new.self.core; state = c.answer.new.self.state; serials = c.answer.new.self.serials; history = h }) t) (sym history)
-          (c.histories_come_to.ensures.answered f s t c.answer.new.self.core c.answer.new.self.state c.answer.new.self.serials c.args.thread c.args.line c.args.call.now c.in-Ok-note.reply
+      stands = subst (λ (h : List Entry). FrontStands (record f { core = c.answer.new.self.core; state = c.answer.new.self.state; serials = c.answer.new.self.serials; syncs = c.answer.new.syncs; history = h }) t) (sym history)
+          (c.histories_come_to.ensures.answered f s t c.answer.new.self.core c.answer.new.self.state c.answer.new.self.serials c.answer.new.syncs c.args.thread c.args.line c.args.call.now c.in-Ok-note.reply
           stands c.requires.its_data c.objects_are_referred_to.ensures answered c.in-Ok-answer.ensures.indexes);
       history = history ∙ ap (λ (x : FrontModel). x.history ++ e ∷ []) c.self.view_is;
       threads = ap (λ (x : FrontModel). x.threads) c.self.view_is;
@@ -61,19 +61,19 @@ returns-in-Err-note-clause-err g c = record {
 
 pub returns-in_default-clause-at_back : goal.returns-in_default-clause-at_back
 returns-in_default-clause-at_back g c =
-    nothing_done (g.L.BackLink.state c.args.link.now) (g.L.BackLink.told c.args.link.now) (due_of c.args.self.now.state c.args.thread c.args.call.now) (waits_of c.args.self.now.state c.args.thread c.args.call.now) true (MayHandOver (face c.args.self.now.core) c.args.self.now.state c.args.self.now.serials c.args.thread c.args.call.now)
+    nothing_done (g.L.BackLink.state c.args.link.now) (g.L.BackLink.told c.args.link.now) (due_of c.args.self.now.state c.args.thread c.args.call.now) (waits_of c.args.self.now.state c.args.thread c.args.call.now) true (MayHandOver (face c.args.self.now.core) c.args.self.now.state c.args.self.now.serials c.args.self.now.syncs c.args.thread c.args.call.now)
 
 pub returns-in-Err-clause-at_back : goal.returns-in-Err-clause-at_back
 returns-in-Err-clause-at_back g c =
-    subst (λ (x : FrontModel). AtBack (g.L.BackLink.state c.args.link.now) (g.L.BackLink.state c.answer.new.link) (g.L.BackLink.told c.args.link.now) (g.L.BackLink.told c.answer.new.link) (due_of x.state c.args.thread c.args.call.now) (waits_of x.state c.args.thread c.args.call.now) true (MayHandOver (face x.core) x.state x.serials c.args.thread c.args.call.now)) c.self.view_is
+    subst (λ (x : FrontModel). AtBack (g.L.BackLink.state c.args.link.now) (g.L.BackLink.state c.answer.new.link) (g.L.BackLink.told c.args.link.now) (g.L.BackLink.told c.answer.new.link) (due_of x.state c.args.thread c.args.call.now) (waits_of x.state c.args.thread c.args.call.now) true (MayHandOver (face x.core) x.state x.serials x.syncs c.args.thread c.args.call.now)) c.self.view_is
     (though_stopped c.answer.ensures.at_back)
 
 pub returns-in-Ok-note-clause-at_back : goal.returns-in-Ok-note-clause-at_back
 returns-in-Ok-note-clause-at_back g c =
-    subst (λ (x : FrontModel). AtBack (g.L.BackLink.state c.args.link.now) (g.L.BackLink.state c.answer.new.link) (g.L.BackLink.told c.args.link.now) (g.L.BackLink.told c.answer.new.link) (due_of x.state c.args.thread c.args.call.now) (waits_of x.state c.args.thread c.args.call.now) false (MayHandOver (face x.core) x.state x.serials c.args.thread c.args.call.now)) c.self.view_is
+    subst (λ (x : FrontModel). AtBack (g.L.BackLink.state c.args.link.now) (g.L.BackLink.state c.answer.new.link) (g.L.BackLink.told c.args.link.now) (g.L.BackLink.told c.answer.new.link) (due_of x.state c.args.thread c.args.call.now) (waits_of x.state c.args.thread c.args.call.now) false (MayHandOver (face x.core) x.state x.serials x.syncs c.args.thread c.args.call.now)) c.self.view_is
     c.in-Ok-answer.ensures.at_back
 
 pub returns-in-Err-note-clause-at_back : goal.returns-in-Err-note-clause-at_back
 returns-in-Err-note-clause-at_back g c =
-    subst (λ (x : FrontModel). AtBack (g.L.BackLink.state c.args.link.now) (g.L.BackLink.state c.answer.new.link) (g.L.BackLink.told c.args.link.now) (g.L.BackLink.told c.answer.new.link) (due_of x.state c.args.thread c.args.call.now) (waits_of x.state c.args.thread c.args.call.now) true (MayHandOver (face x.core) x.state x.serials c.args.thread c.args.call.now)) c.self.view_is
+    subst (λ (x : FrontModel). AtBack (g.L.BackLink.state c.args.link.now) (g.L.BackLink.state c.answer.new.link) (g.L.BackLink.told c.args.link.now) (g.L.BackLink.told c.answer.new.link) (due_of x.state c.args.thread c.args.call.now) (waits_of x.state c.args.thread c.args.call.now) true (MayHandOver (face x.core) x.state x.serials x.syncs c.args.thread c.args.call.now)) c.self.view_is
     (though_stopped c.in-Ok-answer.ensures.at_back)

@@ -1,8 +1,40 @@
-use Rattle.std.proofs.Common.{sym, subst}
+use Rattle.std.proofs.Common.{◌≡◌, ◌≤◌, false, true, refl, sym, subst, ◌∙◌, ap, arith}
+use Rattle.submit_queue.specs.Histories.{last_number}
+use Rattle.back_core.specs.Own.{batches_of}
+use Rattle.back_core.specs.Needs.{IsOfGroup}
+use Rattle.back_core.proofs.Frames.{then_within}
 use Rattle.front_model.specs.Stands.{Holds, no_hands}
 use Rattle.front_moves.specs.Core.{face}
+use Rattle.front_moves.specs.Reasons.{IsEnding}
+use Rattle.sync_serials.specs.Serials.{newest_of}
 use Rattle.front_core.specs.Front.{FrontModel}
 use Rattle.front_core.proofs.front.Front.close.Goals as goal
 
+pub flush_all-requires-clause-holds : goal.flush_all-requires-clause-holds
+flush_all-requires-clause-holds g c = subst (λ (f : FrontModel). Holds (face f.core) no_hands (g.L.BackLink.state c.args.link.now)) (sym c.self.view_is) c.requires.stands.stands.holds
+
 pub close-requires : goal.close-requires
-close-requires g c = record { holds = subst (λ (f : FrontModel). Holds (face f.core) no_hands (g.L.BackLink.state c.args.link.now)) (sym c.self.view_is) c.requires.stands.stands.holds }
+close-requires g c = record { holds = c.in-Ok.ensures.stays.holds }
+
+pub returns-in-Ok-close-clause-ok : goal.returns-in-Ok-close-clause-ok
+returns-in-Ok-close-clause-ok g c = record {
+  closed = refl;
+  history = ap (λ (f : FrontModel). f.history) c.self.view_is;
+  threads = ap (λ (f : FrontModel). f.threads) c.self.view_is;
+  has_closed = c.in-Ok-close.ensures.closed;
+  batched = subst (λ (f : FrontModel). (i : _) → IsOfGroup (face f.core).group i → newest_of f.syncs i ≤ last_number (batches_of (g.L.BackLink.state c.close.new.link).mine) i) c.self.view_is
+      (λ i own.
+      let flushed = c.in-Ok.ensures.flushed i own in
+      let last = c.in-Ok.ensures.stays.holds.last i (subst (λ n. IsOfGroup n i) (sym c.flush_all.ensures.group) own) in
+      let risen = c.in-Ok-close.ensures.at_back.numbers i in
+      omega (arith, flushed.batched, last, risen));
+  owns = c.histories_come_to.ensures.closed (face c.close.new.self) (g.L.BackLink.state c.close.new.link) c.in-Ok-close.ensures.closed;
+}
+
+pub returns-in-Ok-close-clause-at_back : goal.returns-in-Ok-close-clause-at_back
+returns-in-Ok-close-clause-at_back g c =
+    then_within 0 false false IsEnding (omega arith) (λ on. on) (λ on. on) (λ on. on) (λ on. on) (λ batch may. may) (λ batch may. may) c.in-Ok.ensures.at_back c.in-Ok-close.ensures.at_back
+
+pub returns-in-Err-close-clause-at_back : goal.returns-in-Err-close-clause-at_back
+returns-in-Err-close-clause-at_back g c =
+    then_within 0 false true IsEnding (omega arith) (λ on. on) (λ on. on) (λ on. refl) (λ on. refl) (λ batch may. may) (λ batch may. may) c.in-Ok.ensures.at_back c.close.ensures.at_back

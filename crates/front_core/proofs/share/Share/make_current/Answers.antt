@@ -7,6 +7,9 @@ use Rattle.gl_model.specs.GroupEffect.{taken_by, let_go}
 use Rattle.front_moves.specs.Core.{face}
 use Rattle.front_core.specs.Share.{MayCall, IsCarriedOut, HaveIndexes, replaced_index}
 use Rattle.front_core.proofs.ContextIndexes.{left_indexes, fewer-taken, indexes_of_equal}
+use Rattle.sync_serials.specs.Serials.{HasGoneOn}
+use Rattle.front_core.specs.Polls.{HasFlushedAll}
+use Rattle.front_core.proofs.GoingOn.{gone_on}
 use Rattle.front_core.proofs.Switching.{may_still, carried_from, flushed_still}
 use Rattle.back_core.proofs.Frames.{then_within, no_batch}
 use Rattle.front_core.specs.Economy.{IsSwitch, IsTrueReason}
@@ -42,8 +45,15 @@ returns-in-Ok-state_call-clause-indexes g c =
 
 pub returns-in-Ok-state_call-clause-flushed : goal.returns-in-Ok-state_call-clause-flushed
 returns-in-Ok-state_call-clause-flushed g c =
-    flushed_still (replaced_index c.args.self.now.state c.args.self.now.serials c.args.thread c.args.number) (face c.switch.new.self.core).pending (face c.state_call.new.self.core).pending c.state_call.ensures.pending
-    (subst (λ n. IfSome (replaced_index c.args.self.now.state c.args.self.now.serials c.args.thread n) (λ i. (face c.switch.new.self.core).pending i ≡ [])) c.from.ensures c.in-Ok.ensures.flushed)
+    let on : HasGoneOn (face c.switch.new.self.core) (face c.state_call.new.self.core) (g.L.BackLink.state c.switch.new.link) (g.L.BackLink.state c.state_call.new.link)
+    = gone_on c.switch.new.self.core c.state_call.new.self.core c.in-Ok.ensures.moved.holds c.in-Ok-state_call.ensures.done.backs.holds c.state_call.ensures.group c.in-Ok-state_call.ensures.at_back in
+    flushed_still (replaced_index c.args.self.now.state c.args.self.now.serials c.args.thread c.args.number) (face c.switch.new.self.core) (face c.state_call.new.self.core) c.args.syncs.now c.state_call.ensures.pending on.last
+    (subst (λ n. IfSome (replaced_index c.args.self.now.state c.args.self.now.serials c.args.thread n) (HasFlushedAll (face c.switch.new.self.core) c.args.syncs.now)) c.from.ensures c.in-Ok.ensures.flushed)
+
+pub returns-in-Ok-state_call-clause-left : goal.returns-in-Ok-state_call-clause-left
+returns-in-Ok-state_call-clause-left g c =
+    c.drop_indexes.ensures ∙ ap (λ (x : GroupState). only (λ n. has n x.contexts) c.state_call.new.self.serials) c.group.ensures
+    ∙ ap (only (λ n. has n c.state_call.new.self.state.contexts)) (c.state_call.ensures.serials ∙ c.switch.ensures.serials)
 
 pub returns-in-Ok-state_call-clause-at_back : goal.returns-in-Ok-state_call-clause-at_back
 returns-in-Ok-state_call-clause-at_back g c =

@@ -1,14 +1,18 @@
+use Rattle.std.proofs.Common.{◌≡◌, ℕ, Some, Option, false, sym, subst, ap}
+use Rattle.std.specs.Prelude.{IfSome, OnOk, Result, Ok, Err}
 use Rattle.front_moves.specs.Core.{face}
-use Rattle.front_core.specs.Share.{replaced_index}
-use Rattle.front_core.proofs.Switching.{flushed_pending}
-use Rattle.std.proofs.Common.{false}
+use Rattle.front_moves.specs.Reasons.{IsFlushOf}
+use Rattle.vk_types.specs.declared.batches.Reason.TheVariants as reason
 use Rattle.front_core.specs.Economy.{IsSwitch}
-use Rattle.front_core.proofs.AtTheBack.{nothing_done}
+use Rattle.front_core.specs.Polls.{HasFlushedAll}
+use Rattle.front_core.specs.Share.{replaced_index}
+use Rattle.front_core.proofs.AtTheBack.{nothing_done, may_hand, flush_is_switch}
+use Rattle.front_core.proofs.Switching.{flushed_replaced}
 use Rattle.front_core.proofs.share.Share.switch.Goals as goal
 
 pub returns-in-Some-clause-flushed : goal.returns-in-Some-clause-flushed
 returns-in-Some-clause-flushed g c =
-    flushed_pending c.flush.result (face c.args.self.now.core) (face c.flush.new.self) c.in-Some.index (replaced_index c.args.self.now.state c.args.self.now.serials c.args.thread c.args.number) c.in-Some.ensures c.flush.ensures.flushed
+    flushed_replaced c.flush_context.result (HasFlushedAll (face c.flush_context.new.self.core) c.args.syncs.now) c.in-Some.index (replaced_index c.args.self.now.state c.args.self.now.serials c.args.thread c.args.number) c.in-Some.ensures c.flush_context.ensures.flushed
 
 pub returns-in-None-clause-at_back : goal.returns-in-None-clause-at_back
 returns-in-None-clause-at_back g c =

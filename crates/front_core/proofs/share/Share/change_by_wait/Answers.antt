@@ -1,0 +1,27 @@
+use Rattle.std.proofs.Common.{◌≡◌, true, false, sym, subst, ◌∙◌, ap}
+use Rattle.gl_model.specs.declared.state.GroupState.{GroupState}
+use Rattle.gl_model.specs.GroupEffect.{group_effect}
+use Rattle.gl_state.specs.Ended.{gone}
+use Rattle.back_core.specs.Frame.{NoBatch}
+use Rattle.front_moves.specs.Core.{face}
+use Rattle.front_moves.specs.Ending.{HasEnded}
+use Rattle.front_core.specs.Share.{IsChanged}
+use Rattle.front_core.proofs.AtTheBack.{nothing_done}
+use Rattle.front_core.proofs.share.Share.change_by_wait.Goals as goal
+
+pub returns-in-Ok-clause-changed : goal.returns-in-Ok-clause-changed
+returns-in-Ok-clause-changed g c =
+    let before : GroupState = c.args.self.now.state in
+    let ended_is : c.in-Ok.applied.ended.buffers.items ≡ gone before.buffers (group_effect before c.args.thread c.args.call.now).buffers
+    = c.in-Ok.ensures.ended.buffers ∙ ap (λ (x : GroupState). gone before.buffers x.buffers) c.in-Ok.ensures.ok in
+    subst (λ x. IsChanged (face c.args.self.now.core) (face c.end_all.new.self) (g.L.BackLink.state c.args.link.now) (g.L.BackLink.state c.end_all.new.link) before x c.args.thread c.args.call.now)
+    (sym c.in-Ok.ensures.ok)
+    (c.waits_come_to.ensures.changed c.args.self.now.core (face c.end_all.new.self) (g.L.BackLink.state c.args.link.now) (g.L.BackLink.state c.end_all.new.link) before c.args.thread c.args.call.now c.in-Ok.applied.ended.buffers.items
+    c.requires.which c.requires.may ended_is
+    (subst (λ xs. HasEnded (face c.args.self.now.core) (face c.end_all.new.self) (g.L.BackLink.state c.args.link.now) (g.L.BackLink.state c.end_all.new.link) xs) c.as_slice.ensures.value c.end_all.ensures.ended))
+
+pub returns-in-Err-clause-err : goal.returns-in-Err-clause-err
+returns-in-Err-clause-err g c = c.waits_come_to.ensures.owns (face c.args.self.now.core) (g.L.BackLink.state c.args.link.now) c.requires.may.backs.holds
+
+pub returns-in-Err-clause-at_back : goal.returns-in-Err-clause-at_back
+returns-in-Err-clause-at_back g c = nothing_done (g.L.BackLink.state c.args.link.now) (g.L.BackLink.told c.args.link.now) 0 false true NoBatch
