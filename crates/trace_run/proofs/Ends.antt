@@ -1,7 +1,7 @@
 -- How a run ends, by what it has to say and what the sink took of it.
-use Rattle.std.proofs.Common.{◌≡◌, ◌≢◌, ◌⊎◌, ℕ, ◌<◌, ◌≤◌, Bool, true, false, List, ◌++◌, length, take, Result, Option, Some, None, refl, sym, ap, ◌∙◌, subst, arith, inl, inr, length-append}
+use Rattle.std.proofs.Common.{◌≡◌, ◌≢◌, ◌⊎◌, ℕ, ◌<◌, ◌≤◌, true, false, List, ◌++◌, length, take, Result, Option, Some, None, refl, sym, ap, ◌∙◌, subst, arith, inl, inr, length-append}
 use Rattle.std.proofs.lemmas.List.{append-nil}
-use Rattle.std.specs.Io.KnownBytes.{Appends, Consumes, IsAtEnd}
+use Rattle.std.specs.Io.KnownBytes.{Appends, Consumes}
 use Rattle.trace_io.specs.declared.status.Status.{Status}
 use Rattle.trace_io.specs.declared.status.Status.TheVariants.{Ok, Usage, Trace, ReadFault, WriteFault, DeviceLost, Memory}
 use Rattle.faults.specs.Faults.{Rose}
@@ -13,7 +13,9 @@ use Rattle.trace_text.proofs.TextLaws.{text_again}
 use Rattle.trace_run.specs.declared.saying.Said.{Said}
 use Rattle.trace_run.specs.declared.saying.Said.TheVariants as said
 use Rattle.trace_run.specs.Runs.{first_unbuilt}
-use Rattle.trace_run.specs.Once.{Names, SpellsOnce, Gives, Answered, WasLost, IsRefusedAt, IsRefusal, Refused, IsWritten, WasCutOff, IsUnread, IsRunOf, IsSaid, Says, Puts, text_of, status_of, has_text, usage_line, MayAnswer, MayRefuse, MayRefuseLong, kind_of_long}
+use Rattle.trace_run.specs.declared.saying.Output.{Output}
+use Rattle.trace_run.proofs.Words.{Brings, brought_read, brought_made, made_is_short, long_text}
+use Rattle.trace_run.specs.Once.{Names, SpellsOnce, SpellsGen, IsServed, IsRead, IsBrought, IsTooLong, text_of_number, Gives, Answered, WasLost, IsRefusedAt, WasRefused, Refused, IsWritten, WasCutOff, IsUnread, IsRunOf, IsSaid, Says, Puts, text_of, status_of, has_text, usage_line, MayAnswer, MayRefuse, MayRefuseLong, kind_of_long}
 
 -- a text that was put is said
 pub puts_said : {text : List ℕ} {good : Status} {taken taken_after : Option (List ℕ)} {faults faults_after : ℕ} {status : Status}
@@ -61,11 +63,10 @@ usage_alone it is (Says.no_text e h same) = inl (e ∙ ap status_of is)
 usage_alone it is (Says.no_memory e not same) = absurd (not is)
 
 -- what came is all that was there
-whole_text : (text came : List ℕ) (left left_after : Option (List ℕ)) → left ≡ Some text → Consumes left left_after came →
-    IsAtEnd left_after → came ≡ text
-whole_text text came left None is consumes ended = absurd (rw is at consumes)
-whole_text text came left (Some rest) is consumes ended =
-    let e : text ≡ came ++ rest = rw is at consumes in sym (e ∙ ap (λ (l : List ℕ). came ++ l) ended ∙ append-nil came)
+whole_text : (text came : List ℕ) (left left_after : Option (List ℕ)) → left ≡ Some text → IsRead left left_after came → came ≡ text
+whole_text text came left None is r = absurd (rw is at r.read)
+whole_text text came left (Some rest) is r =
+    let e : text ≡ came ++ rest = rw is at r.read in sym (e ∙ ap (λ (l : List ℕ). came ++ l) r.ended ∙ append-nil came)
 
 -- what came is no longer than what was there
 came_short : (text came : List ℕ) (left left_after : Option (List ℕ)) → left ≡ Some text → Consumes left left_after came →
@@ -128,7 +129,7 @@ module _ (words : List (List ℕ)) (left left_after : Option (List ℕ)) (reads 
   spoke s it is fault memory (Says.no_memory e not same) = absurd (memory (sym is ∙ e))
 
   ok_from : (it : Said) → status_of it ≡ Ok → So it → Taken it → Answered words left left_after taken taken_after journal
-  ok_from (said.Replies groups tail) e so a = record { groups = groups.items; tail = tail; ran = so; written = a refl }
+  ok_from (said.Replies groups tail) e so a = record { shown = groups.items; tail = tail; ran = so; written = a refl }
   ok_from (said.Lost groups) e so a = absurd (cc)
   ok_from said.Usage e so a = absurd (cc)
   ok_from (said.Refused line kind) e so a = absurd (cc)
@@ -138,7 +139,7 @@ module _ (words : List (List ℕ)) (left left_after : Option (List ℕ)) (reads 
   pub ok : (it : Said) → So it → Spoken it → status ≡ Ok → Answered words left left_after taken taken_after journal
   ok it so says is = let sp = spoke Ok it is (λ e. cc) (λ e. cc) says in ok_from it sp.0 so sp.1
 
-  usage_from : (it : Said) → status_of it ≡ Usage → So it → Taken it → (¬ SpellsOnce words) × Appends taken taken_after usage_line
+  usage_from : (it : Said) → status_of it ≡ Usage → So it → Taken it → (¬ IsServed words) × Appends taken taken_after usage_line
   usage_from said.Usage e so a = (so, a refl)
   usage_from (said.Replies groups tail) e so a = absurd (cc)
   usage_from (said.Lost groups) e so a = absurd (cc)
@@ -146,22 +147,22 @@ module _ (words : List (List ℕ)) (left left_after : Option (List ℕ)) (reads 
   usage_from said.ReadFault e so a = absurd (cc)
   usage_from said.Memory e so a = absurd (cc)
 
-  pub usage : (it : Said) → So it → Spoken it → status ≡ Usage → (¬ SpellsOnce words) × Appends taken taken_after usage_line
+  pub usage : (it : Said) → So it → Spoken it → status ≡ Usage → (¬ IsServed words) × Appends taken taken_after usage_line
   usage it so says is = let sp = spoke Usage it is (λ e. cc) (λ e. cc) says in usage_from it sp.0 so sp.1
 
-  trace_from : (l k : ℕ) (it : Said) → status_of it ≡ Trace l k → So it → Taken it → Refused left left_after taken taken_after l k
+  trace_from : (l k : ℕ) (it : Said) → status_of it ≡ Trace l k → So it → Taken it → Refused words left left_after taken taken_after l k
   trace_from l k (said.Refused line kind) e so a =
       let same_line : line ≡ l = cc in
       let same_kind : kind ≡ k = cc in
-      subst (λ (n : ℕ). Refused left left_after taken taken_after n k) same_line
-      (subst (λ (n : ℕ). Refused left left_after taken taken_after line n) same_kind (record { refusal = so; written = a refl }))
+      subst (λ (n : ℕ). Refused words left left_after taken taken_after n k) same_line
+      (subst (λ (n : ℕ). Refused words left left_after taken taken_after line n) same_kind (record { was = so; written = a refl }))
   trace_from l k (said.Replies groups tail) e so a = absurd (cc)
   trace_from l k (said.Lost groups) e so a = absurd (cc)
   trace_from l k said.Usage e so a = absurd (cc)
   trace_from l k said.ReadFault e so a = absurd (cc)
   trace_from l k said.Memory e so a = absurd (cc)
 
-  pub trace : (it : Said) → So it → Spoken it → (l k : ℕ) → status ≡ Trace l k → Refused left left_after taken taken_after l k
+  pub trace : (it : Said) → So it → Spoken it → (l k : ℕ) → status ≡ Trace l k → Refused words left left_after taken taken_after l k
   trace it so says l k is = let sp = spoke (Trace l k) it is (λ e. cc) (λ e. cc) says in trace_from l k it sp.0 so sp.1
 
   read_from : (it : Said) → status_of it ≡ ReadFault → So it → Rose reads reads_after
@@ -177,7 +178,7 @@ module _ (words : List (List ℕ)) (left left_after : Option (List ℕ)) (reads 
 
   lost_from : (it : Said) → status_of it ≡ DeviceLost → So it → Taken it →
       WasLost words left left_after taken taken_after losses losses_after
-  lost_from (said.Lost groups) e so a = record { groups = groups.items; ran = so; written = a refl }
+  lost_from (said.Lost groups) e so a = record { shown = groups.items; ran = so; written = a refl }
   lost_from (said.Replies groups tail) e so a = absurd (cc)
   lost_from said.Usage e so a = absurd (cc)
   lost_from (said.Refused line kind) e so a = absurd (cc)
@@ -217,50 +218,87 @@ module _ (words : List (List ℕ)) (left left_after : Option (List ℕ)) (reads 
   any P it own fault memory (Says.no_text e h same) = subst P (sym e) own
   any P it own fault memory (Says.no_memory e not same) = subst P (sym e) memory
 
-  refusal_of : (text : List ℕ) (line kind l k : ℕ) → left ≡ Some text → length text ≤ 67108864 → IsRefusedAt text line kind →
-      IsRefusal left left_after l k → (l ≡ line) × (k ≡ kind)
-  refusal_of text line kind l k is short why (came, consumes, inl so) =
-      let same : came ≡ text = whole_text text came left left_after is consumes so.1 in
-      refused_once text l k line kind (subst (λ (t : List ℕ). IsRefusedAt t l k) same so.0) why
-  refusal_of text line kind l k is short why (came, consumes, inr so) =
-      absurd (omega (arith, so.2, came_short text came left left_after is consumes))
+  abbrev Runs : List ℕ → Type 0
+  Runs text = Brings words left text
 
-  no_run : (text : List ℕ) (line kind : ℕ) (threads : List Plan) → left ≡ Some text → IsRefusedAt text line kind →
-      Gives left left_after threads → ⊥
-  no_run text line kind threads is why gave =
-      let same : gave.text ≡ text = whole_text text gave.text left left_after is gave.read gave.ended in
-      exclusive text line kind threads why (subst (λ (t : List ℕ). Spells t threads) same gave.spelled) gave.built
+  brought : (text came : List ℕ) (seed : ℕ) (output : Output) → Runs text → Names words seed output →
+      IsBrought seed output left left_after came → came ≡ text
+  brought text came seed output (Brings.source once is short) named came_so =
+      whole_text text came left left_after is (brought_read words seed output left left_after came once named came_so)
+  brought text came seed output (Brings.made number gen is) named came_so =
+      brought_made words number seed output left left_after came gen named came_so ∙ sym is
 
-  may_refuse : (it : Said) → So it → (text : List ℕ) (line kind : ℕ) → left ≡ Some text → length text ≤ 67108864 → SpellsOnce words →
-      IsRefusedAt text line kind → MayRefuse line kind (status_of it)
-  may_refuse said.Usage so text line kind is short spells why = absurd (so spells)
-  may_refuse (said.Refused l k) so text line kind is short spells why = refusal_of text line kind l k is short why so
-  may_refuse (said.Replies groups tail) so text line kind is short spells why = absurd (no_run text line kind so.threads is why so.gave)
-  may_refuse (said.Lost groups) so text line kind is short spells why = absurd (no_run text line kind so.threads is why so.gave)
-  may_refuse said.ReadFault so text line kind is short spells why = tt
-  may_refuse said.Memory so text line kind is short spells why = tt
+  served : (text : List ℕ) → Runs text → IsServed words
+  served text (Brings.source once is short) = inl once
+  served text (Brings.made number gen is) = inr (number, gen)
+
+  -- no text that is run is too long
+  not_long : (text : List ℕ) (seed : ℕ) (output : Output) → Runs text → Names words seed output → IsTooLong output left left_after → ⊥
+  not_long text seed output (Brings.source once is short) named long =
+      let came = long_text output left left_after long in
+      omega (arith, short, came.2, came_short text came.0 left left_after is came.1)
+  not_long text seed output (Brings.made number gen is) named long = made_is_short words number seed output left left_after gen named long
+
+  refusal_of : (text : List ℕ) (line kind l k : ℕ) → Runs text → IsRefusedAt text line kind →
+      WasRefused words left left_after l k → (l ≡ line) × (k ≡ kind)
+  refusal_of text line kind l k is why was =
+      elim (was.refusal) [
+        | inl so ↦ refused_once text l k line kind
+            (subst (λ (t : List ℕ). IsRefusedAt t l k) (brought text so.0 was.seed was.output is was.named so.1) so.2) why
+        | inr so ↦ absurd (not_long text was.seed was.output is was.named so.2)
+      ]
+
+  no_run : (text : List ℕ) (line kind seed : ℕ) (output : Output) (threads : List Plan) → Runs text → IsRefusedAt text line kind →
+      Names words seed output → Gives seed output left left_after threads → ⊥
+  no_run text line kind seed output threads is why named gave =
+      exclusive text line kind threads why
+      (subst (λ (t : List ℕ). Spells t threads) (brought text gave.text seed output is named gave.brought) gave.spelled) gave.built
+
+  may_refuse : (it : Said) → So it → (text : List ℕ) (line kind : ℕ) → Runs text → IsRefusedAt text line kind →
+      MayRefuse line kind (status_of it)
+  may_refuse said.Usage so text line kind is why = absurd (so (served text is))
+  may_refuse (said.Refused l k) so text line kind is why = refusal_of text line kind l k is why so
+  may_refuse (said.Replies groups tail) so text line kind is why =
+      absurd (no_run text line kind so.seed so.output so.threads is why so.named so.gave)
+  may_refuse (said.Lost groups) so text line kind is why =
+      absurd (no_run text line kind so.seed so.output so.threads is why so.named so.gave)
+  may_refuse said.ReadFault so text line kind is why = tt
+  may_refuse said.Memory so text line kind is why = tt
 
   pub refused : (it : Said) → So it → Spoken it → (text : List ℕ) (line kind : ℕ) → left ≡ Some text → length text ≤ 67108864 →
       SpellsOnce words → IsRefusedAt text line kind → MayRefuse line kind status
   refused it so says text line kind is short spells why =
-      any (MayRefuse line kind) it (may_refuse it so text line kind is short spells why) tt tt says
+      any (MayRefuse line kind) it (may_refuse it so text line kind (Brings.source spells is short) why) tt tt says
 
-  long_refusal : (text : List ℕ) (l k : ℕ) → left ≡ Some text → 67108864 < length text → IsRefusal left left_after l k →
-      (l ≡ 0) × (k ≡ kind_of_long)
-  long_refusal text l k is long (came, consumes, inl so) =
-      absurd (omega (arith, so.2, ap length (whole_text text came left left_after is consumes so.1)))
-  long_refusal text l k is long (came, consumes, inr so) = (so.1, so.0)
+  pub made_refused : (it : Said) → So it → Spoken it → (number line kind : ℕ) → SpellsGen words number →
+      IsRefusedAt (text_of_number number) line kind → MayRefuse line kind status
+  made_refused it so says number line kind gen why =
+      any (MayRefuse line kind) it (may_refuse it so (text_of_number number) line kind (Brings.made number gen refl) why) tt tt says
 
-  no_long_run : (text : List ℕ) (threads : List Plan) → left ≡ Some text → 67108864 < length text → Gives left left_after threads → ⊥
-  no_long_run text threads is long gave =
-      absurd (omega (arith, gave.spelled.fits, ap length (whole_text text gave.text left left_after is gave.read gave.ended)))
+  too_long_came : (text came : List ℕ) → left ≡ Some text → 67108864 < length text → IsRead left left_after came → ⊥
+  too_long_came text came is long r = omega (arith, r.short, ap length (whole_text text came left left_after is r))
+
+  no_long_run : (text : List ℕ) (seed : ℕ) (output : Output) (threads : List Plan) → left ≡ Some text → 67108864 < length text →
+      SpellsOnce words → Names words seed output → Gives seed output left left_after threads → ⊥
+  no_long_run text seed output threads is long spells named gave =
+      too_long_came text gave.text is long (brought_read words seed output left left_after gave.text spells named gave.brought)
+
+  long_refusal : (text : List ℕ) (l k : ℕ) → left ≡ Some text → 67108864 < length text → SpellsOnce words →
+      WasRefused words left left_after l k → (l ≡ 0) × (k ≡ kind_of_long)
+  long_refusal text l k is long spells was =
+      elim (was.refusal) [
+        | inl so ↦ absurd (too_long_came text so.0 is long (brought_read words was.seed was.output left left_after so.0 spells was.named so.1))
+        | inr so ↦ (so.1, so.0)
+      ]
 
   may_refuse_long : (it : Said) → So it → (text : List ℕ) → left ≡ Some text → 67108864 < length text → SpellsOnce words →
       MayRefuseLong (status_of it)
-  may_refuse_long said.Usage so text is long spells = absurd (so spells)
-  may_refuse_long (said.Refused l k) so text is long spells = long_refusal text l k is long so
-  may_refuse_long (said.Replies groups tail) so text is long spells = absurd (no_long_run text so.threads is long so.gave)
-  may_refuse_long (said.Lost groups) so text is long spells = absurd (no_long_run text so.threads is long so.gave)
+  may_refuse_long said.Usage so text is long spells = absurd (so (inl spells))
+  may_refuse_long (said.Refused l k) so text is long spells = long_refusal text l k is long spells so
+  may_refuse_long (said.Replies groups tail) so text is long spells =
+      absurd (no_long_run text so.seed so.output so.threads is long spells so.named so.gave)
+  may_refuse_long (said.Lost groups) so text is long spells =
+      absurd (no_long_run text so.seed so.output so.threads is long spells so.named so.gave)
   may_refuse_long said.ReadFault so text is long spells = tt
   may_refuse_long said.Memory so text is long spells = tt
 
@@ -268,50 +306,57 @@ module _ (words : List (List ℕ)) (left left_after : Option (List ℕ)) (reads 
       MayRefuseLong status
   too_long it so says text is long spells = any MayRefuseLong it (may_refuse_long it so text is long spells) tt tt says
 
-  no_refusal : (text : List ℕ) (threads : List Plan) (l k : ℕ) → left ≡ Some text → Spells text threads → first_unbuilt threads ≡ None →
-      IsRefusal left left_after l k → ⊥
-  no_refusal text threads l k is spelled built (came, consumes, inl so) =
-      let same : came ≡ text = whole_text text came left left_after is consumes so.1 in
-      exclusive text l k threads (subst (λ (t : List ℕ). IsRefusedAt t l k) same so.0) spelled built
-  no_refusal text threads l k is spelled built (came, consumes, inr so) =
-      absurd (omega (arith, so.2, spelled.fits, came_short text came left left_after is consumes))
+  no_refusal : (text : List ℕ) (threads : List Plan) (l k : ℕ) → Runs text → Spells text threads → first_unbuilt threads ≡ None →
+      WasRefused words left left_after l k → ⊥
+  no_refusal text threads l k is spelled built was =
+      elim (was.refusal) [
+        | inl so ↦ exclusive text l k threads
+            (subst (λ (t : List ℕ). IsRefusedAt t l k) (brought text so.0 was.seed was.output is was.named so.1) so.2) spelled built
+        | inr so ↦ not_long text was.seed was.output is was.named so.2
+      ]
 
-  may_answer : (it : Said) → So it → (text : List ℕ) (threads : List Plan) → left ≡ Some text → SpellsOnce words → Spells text threads →
+  may_answer : (it : Said) → So it → (text : List ℕ) (threads : List Plan) → Runs text → Spells text threads →
       first_unbuilt threads ≡ None → MayAnswer (status_of it)
-  may_answer said.Usage so text threads is spells spelled built = absurd (so spells)
-  may_answer (said.Refused l k) so text threads is spells spelled built = absurd (no_refusal text threads l k is spelled built so)
-  may_answer (said.Replies groups tail) so text threads is spells spelled built = tt
-  may_answer (said.Lost groups) so text threads is spells spelled built = tt
-  may_answer said.ReadFault so text threads is spells spelled built = tt
-  may_answer said.Memory so text threads is spells spelled built = tt
+  may_answer said.Usage so text threads is spelled built = absurd (so (served text is))
+  may_answer (said.Refused l k) so text threads is spelled built = absurd (no_refusal text threads l k is spelled built so)
+  may_answer (said.Replies groups tail) so text threads is spelled built = tt
+  may_answer (said.Lost groups) so text threads is spelled built = tt
+  may_answer said.ReadFault so text threads is spelled built = tt
+  may_answer said.Memory so text threads is spelled built = tt
 
   pub answered : (it : Said) → So it → Spoken it → (text : List ℕ) (threads : List Plan) → left ≡ Some text → SpellsOnce words →
       Spells text threads → first_unbuilt threads ≡ None → MayAnswer status
   answered it so says text threads is spells spelled built =
-      any MayAnswer it (may_answer it so text threads is spells spelled built) tt tt says
+      any MayAnswer it (may_answer it so text threads (Brings.source spells is spelled.fits) spelled built) tt tt says
+
+  pub made_answered : (it : Said) → So it → Spoken it → (number : ℕ) (threads : List Plan) → SpellsGen words number →
+      Spells (text_of_number number) threads → first_unbuilt threads ≡ None → MayAnswer status
+  made_answered it so says number threads gen spelled built =
+      any MayAnswer it (may_answer it so (text_of_number number) threads (Brings.made number gen refl) spelled built) tt tt says
 
 -- what was not run, and what a run has to say
 
 pub said_unread : (words : List (List ℕ)) (left left_after : Option (List ℕ)) (reads reads_after losses losses_after : ℕ)
-    (journal : List Logged) (it : Said) →
-    IsUnread left left_after reads reads_after it → IsSaid words left left_after reads reads_after losses losses_after journal it
-said_unread words left left_after reads reads_after losses losses_after journal said.Usage so = absurd so
-said_unread words left left_after reads reads_after losses losses_after journal (said.Refused line kind) so = so
-said_unread words left left_after reads reads_after losses losses_after journal (said.Replies groups tail) so = absurd so
-said_unread words left left_after reads reads_after losses losses_after journal (said.Lost groups) so = absurd so
-said_unread words left left_after reads reads_after losses losses_after journal said.ReadFault so = so
-said_unread words left left_after reads reads_after losses losses_after journal said.Memory so = tt
+    (journal : List Logged) (seed : ℕ) (output : Output) (it : Said) → Names words seed output →
+    IsUnread seed output left left_after reads reads_after it → IsSaid words left left_after reads reads_after losses losses_after journal it
+said_unread words left left_after reads reads_after losses losses_after journal seed output said.Usage named so = absurd so
+said_unread words left left_after reads reads_after losses losses_after journal seed output (said.Refused line kind) named so =
+    record { seed = seed; output = output; named = named; refusal = so }
+said_unread words left left_after reads reads_after losses losses_after journal seed output (said.Replies groups tail) named so = absurd so
+said_unread words left left_after reads reads_after losses losses_after journal seed output (said.Lost groups) named so = absurd so
+said_unread words left left_after reads reads_after losses losses_after journal seed output said.ReadFault named so = so
+said_unread words left left_after reads reads_after losses losses_after journal seed output said.Memory named so = tt
 
 pub said_run : (words : List (List ℕ)) (left left_after : Option (List ℕ)) (reads reads_after losses losses_after : ℕ)
-    (journal : List Logged) (threads : List Plan) (seed : ℕ) (summary : Bool) (it : Said) →
-    Names words seed summary → Gives left left_after threads → IsRunOf threads seed summary losses losses_after journal it →
+    (journal : List Logged) (threads : List Plan) (seed : ℕ) (output : Output) (it : Said) →
+    Names words seed output → Gives seed output left left_after threads → IsRunOf threads seed output losses losses_after journal it →
     IsSaid words left left_after reads reads_after losses losses_after journal it
-said_run words left left_after reads reads_after losses losses_after journal threads seed summary said.Usage named gave so = absurd so
-said_run words left left_after reads reads_after losses losses_after journal threads seed summary (said.Refused line kind) named gave so =
+said_run words left left_after reads reads_after losses losses_after journal threads seed output said.Usage named gave so = absurd so
+said_run words left left_after reads reads_after losses losses_after journal threads seed output (said.Refused line kind) named gave so =
     absurd so
-said_run words left left_after reads reads_after losses losses_after journal threads seed summary (said.Replies groups tail) named gave so =
-    record { seed = seed; summary = summary; named = named; threads = threads; gave = gave; ran = so.0; tail_is = so.1 }
-said_run words left left_after reads reads_after losses losses_after journal threads seed summary (said.Lost groups) named gave so =
-    record { seed = seed; summary = summary; named = named; threads = threads; gave = gave; answers = so.0; rose = so.1 }
-said_run words left left_after reads reads_after losses losses_after journal threads seed summary said.ReadFault named gave so = absurd so
-said_run words left left_after reads reads_after losses losses_after journal threads seed summary said.Memory named gave so = tt
+said_run words left left_after reads reads_after losses losses_after journal threads seed output (said.Replies groups tail) named gave so =
+    record { seed = seed; output = output; named = named; threads = threads; gave = gave; shows = so }
+said_run words left left_after reads reads_after losses losses_after journal threads seed output (said.Lost groups) named gave so =
+    record { seed = seed; output = output; named = named; threads = threads; gave = gave; shows = so }
+said_run words left left_after reads reads_after losses losses_after journal threads seed output said.ReadFault named gave so = absurd so
+said_run words left left_after reads reads_after losses losses_after journal threads seed output said.Memory named gave so = tt

@@ -1,6 +1,6 @@
 -- A world that is led through a schedule and closed, and what is left of it.
 use mathlib.Core.Path.{fun_ext}
-use Rattle.std.proofs.Common.{◌≡◌, ℕ, zero, suc, ◌<◌, ◌≤◌, Bool, List, [], ◌∷◌, ◌++◌, length, map, refl, sym, ap, ◌∙◌, subst}
+use Rattle.std.proofs.Common.{◌≡◌, ℕ, zero, suc, ◌<◌, ◌≤◌, List, [], ◌∷◌, ◌++◌, length, map, refl, sym, ap, ◌∙◌, subst}
 use Rattle.std.specs.Prelude.{Result, Ok, Err, OnErr}
 use Rattle.std.proofs.lemmas.List.{append-nil}
 use Rattle.gl_calls.specs.declared.reply.Entry.{Entry}
@@ -17,6 +17,7 @@ use Rattle.world_core.specs.Steps.{HasHalted}
 use Rattle.world_core.specs.Ends.{HasClosed, HasFinished}
 use Rattle.schedule.specs.Moves.{Move, schedule, callers_of_group}
 use Rattle.schedule.specs.Made.{AreMade, AreCutOff}
+use Rattle.trace_run.specs.declared.saying.Output.{Output}
 use Rattle.trace_run.specs.Runs.{AreReplies, AnswersFirst, RanAll}
 use Rattle.trace_run.specs.Led.{AreCalls, WasLed, WasLedOn}
 use Rattle.trace_run.specs.Once.{tail_of}
@@ -129,8 +130,8 @@ module _ (D : Type 0) (threads first : List Plan) (seed : ℕ) (w : WorldModel D
       record { made = led.made; rest = led.rest; schedule_is = led.schedule_is; replies = replies led.made led.threads_are led.calls }
 
 -- the tail of the replies, by what was read
-pub tail_same : (summary : Bool) (groups seen : List GroupHistory) (journal read : List Logged) (tail : Tail) →
-    tail ≡ tail_of summary seen read → seen ≡ groups → read ≡ journal → tail ≡ tail_of summary groups journal
-tail_same summary groups seen journal read tail is same_groups same_journal =
-    is ∙ ap (λ (l : List GroupHistory). tail_of summary l read) same_groups
-    ∙ ap (λ (l : List Logged). tail_of summary groups l) same_journal
+pub tail_same : (output : Output) (groups seen : List GroupHistory) (journal read : List Logged) (tail : Tail) →
+    tail ≡ tail_of output seen read → seen ≡ groups → read ≡ journal → tail ≡ tail_of output groups journal
+tail_same output groups seen journal read tail is same_groups same_journal =
+    is ∙ ap (λ (l : List GroupHistory). tail_of output l read) same_groups
+    ∙ ap (λ (l : List Logged). tail_of output groups l) same_journal

@@ -6,7 +6,8 @@ use Rattle.trace_io.specs.declared.status.Status.{Status}
 use Rattle.trace_io.specs.declared.status.Status.TheVariants.{Ok, Usage, Trace, ReadFault, WriteFault, DeviceLost, Memory}
 use Rattle.vk_device.specs.declared.logged.Logged.{Logged}
 use Rattle.faults.specs.Faults.{Rose}
-use Rattle.command_line.specs.declared.command.Command.TheVariants.{Once}
+use Rattle.command_line.specs.declared.command.Command.{Command}
+use Rattle.command_line.specs.declared.command.Command.TheVariants.{Once, Gen}
 use Rattle.command_line.specs.Commands as commands
 use Rattle.trace_text.specs.Reading.{Plan, trace_of}
 use Rattle.trace_text.specs.Traces.{Spells}
@@ -14,18 +15,35 @@ use Rattle.reply_text.specs.declared.history.GroupHistory.{GroupHistory}
 use Rattle.reply_text.specs.declared.history.Tail.{Tail}
 use Rattle.reply_text.specs.declared.history.Tail.TheVariants.{End, Summary, Lost}
 use Rattle.reply_text.specs.Replies.{replies_text}
+use Rattle.trace_gen.specs.Generated.{generated_text, words_of_number}
+use Rattle.trace_run.specs.declared.saying.Output.{Output}
+use Rattle.trace_run.specs.declared.saying.Output.TheVariants as output
 use Rattle.trace_run.specs.declared.saying.Said.{Said}
 use Rattle.trace_run.specs.declared.saying.Said.TheVariants as said
 use Rattle.run_summary.specs.Counting.{counts_of}
 use Rattle.trace_run.specs.Runs.{first_unbuilt, AnswersFirst, RanAll}
 
--- the words of the command `once`, with this seed, and with a summary or without
-abbrev pub Names : List (List ℕ) → ℕ → Bool → Type 0
-Names words seed summary = commands.Spells words (Once seed summary)
+-- the command that has this seed, or makes the trace of this number, and writes this of the run
+abbrev pub command_for : ℕ → Output → Command
+command_for seed output.Replies = Once seed false
+command_for seed output.RepliesAndSummary = Once seed true
+command_for number output.SummaryAlone = Gen number
 
--- the words of the command that is served
+-- the words of a command that is served, with its seed and with what is written of the run
+abbrev pub Names : List (List ℕ) → ℕ → Output → Type 0
+Names words seed output = commands.Spells words (command_for seed output)
+
+-- the words of the command `once`, with a summary or without
 abbrev pub SpellsOnce : List (List ℕ) → Type 0
-SpellsOnce words = (seed : ℕ) × (summary : Bool) × Names words seed summary
+SpellsOnce words = (seed : ℕ) × (summary : Bool) × commands.Spells words (Once seed summary)
+
+-- the words of the command `gen` of this number
+abbrev pub SpellsGen : List (List ℕ) → ℕ → Type 0
+SpellsGen words number = commands.Spells words (Gen number)
+
+-- the words of a command that is served
+abbrev pub IsServed : List (List ℕ) → Type 0
+IsServed words = SpellsOnce words ⊎ ((number : ℕ) × SpellsGen words number)
 
 abbrev pub line_feed : List ℕ
 line_feed = 10 ∷ []
@@ -36,53 +54,89 @@ usage_line = codes "usage: angle_run once --seed N [--summary] | threads --worke
 unfoldable pub refused_text : ℕ → ℕ → List ℕ
 refused_text line kind = codes "angle-reply 1" ++ line_feed ++ codes "refused " ++ decimal line ++ codes " " ++ decimal kind ++ line_feed
 
--- The source gave a text to its end. It spells a trace each of whose calls is built.
-pub record Gives (left left_after : Option (List ℕ)) (threads : List Plan) : Type 0 where
-  pub text : List ℕ
+-- all that the source gave, which is not too long
+pub record IsRead (left left_after : Option (List ℕ)) (text : List ℕ) : Type 0 where
   pub read : Consumes left left_after text
   pub ended : IsAtEnd left_after
+  pub short : length text ≤ 67108864
+
+-- the text of the trace of this number
+abbrev pub text_of_number : ℕ → List ℕ
+text_of_number number = generated_text (words_of_number number)
+
+-- The text that is run: of `once` all that the source gave, and of `gen` that of the number's trace, for which nothing is read.
+abbrev pub IsBrought : ℕ → Output → Option (List ℕ) → Option (List ℕ) → List ℕ → Type 0
+IsBrought seed output.Replies left left_after text = IsRead left left_after text
+IsBrought seed output.RepliesAndSummary left left_after text = IsRead left left_after text
+IsBrought number output.SummaryAlone left left_after text = (left_after ≡ left) × (text ≡ text_of_number number)
+
+-- The text that is run spells a trace each of whose calls is built.
+pub record Gives (seed : ℕ) (output : Output) (left left_after : Option (List ℕ)) (threads : List Plan) : Type 0 where
+  pub text : List ℕ
+  pub brought : IsBrought seed output left left_after text
   pub spelled : Spells text threads
   pub built : first_unbuilt threads ≡ None
 
--- the end of the text of replies, where all lines were answered: with the counts of the run, if a summary was asked for
-abbrev pub tail_of : Bool → List GroupHistory → List Logged → Tail
-tail_of true groups journal = Summary (counts_of groups journal)
-tail_of false groups journal = End
+-- the histories that are written: of `gen` none
+abbrev pub shown_of : Output → List GroupHistory → List GroupHistory
+shown_of output.Replies groups = groups
+shown_of output.RepliesAndSummary groups = groups
+shown_of output.SummaryAlone groups = []
 
--- The source gave such a trace, and all its lines were answered, in the order of the schedule that the words name.
-pub record RanWhole (words : List (List ℕ)) (left left_after : Option (List ℕ)) (groups : List GroupHistory) (tail : Tail)
+-- the end of the text of replies, where all lines were answered: with the counts of the run, if a summary was asked for
+abbrev pub tail_of : Output → List GroupHistory → List Logged → Tail
+tail_of output.Replies groups journal = End
+tail_of output.RepliesAndSummary groups journal = Summary (counts_of groups journal)
+tail_of output.SummaryAlone groups journal = Summary (counts_of groups journal)
+
+-- All lines of a trace were answered, and this is what there is to write of it.
+pub record Shows (threads : List Plan) (seed : ℕ) (output : Output) (journal : List Logged) (shown : List GroupHistory) (tail : Tail)
+    : Type 0 where
+  pub groups : List GroupHistory
+  pub ran : RanAll threads seed groups journal
+  pub shown_is : shown ≡ shown_of output groups
+  pub tail_is : tail ≡ tail_of output groups journal
+
+-- The first calls of the schedule were answered, then the device was lost, and this is what there is to write of it.
+pub record ShowsFirst (threads : List Plan) (seed : ℕ) (output : Output) (losses losses_after : ℕ) (shown : List GroupHistory)
+    : Type 0 where
+  pub groups : List GroupHistory
+  pub answers : AnswersFirst threads seed groups
+  pub shown_is : shown ≡ shown_of output groups
+  pub rose : Rose losses losses_after
+
+-- Such a trace came, and all its lines were answered, in the order of the schedule that the words name.
+pub record RanWhole (words : List (List ℕ)) (left left_after : Option (List ℕ)) (shown : List GroupHistory) (tail : Tail)
     (journal : List Logged) : Type 0 where
   pub seed : ℕ
-  pub summary : Bool
-  pub named : Names words seed summary
+  pub output : Output
+  pub named : Names words seed output
   pub threads : List Plan
-  pub gave : Gives left left_after threads
-  pub ran : RanAll threads seed groups journal
-  pub tail_is : tail ≡ tail_of summary groups journal
+  pub gave : Gives seed output left left_after threads
+  pub shows : Shows threads seed output journal shown tail
 
--- all lines of the trace were answered, and the sink took the replies
+-- all lines of the trace were answered, and the sink took what there is to write of it
 pub record Answered (words : List (List ℕ)) (left left_after taken taken_after : Option (List ℕ)) (journal : List Logged) : Type 0 where
-  pub groups : List GroupHistory
+  pub shown : List GroupHistory
   pub tail : Tail
-  pub ran : RanWhole words left left_after groups tail journal
-  pub written : Appends taken taken_after (replies_text groups tail)
+  pub ran : RanWhole words left left_after shown tail journal
+  pub written : Appends taken taken_after (replies_text shown tail)
 
 -- the first calls of the schedule were answered, and then the device was lost
 pub record RanUntilLost (words : List (List ℕ)) (left left_after : Option (List ℕ)) (losses losses_after : ℕ)
-    (groups : List GroupHistory) : Type 0 where
+    (shown : List GroupHistory) : Type 0 where
   pub seed : ℕ
-  pub summary : Bool
-  pub named : Names words seed summary
+  pub output : Output
+  pub named : Names words seed output
   pub threads : List Plan
-  pub gave : Gives left left_after threads
-  pub answers : AnswersFirst threads seed groups
-  pub rose : Rose losses losses_after
+  pub gave : Gives seed output left left_after threads
+  pub shows : ShowsFirst threads seed output losses losses_after shown
 
--- The device was lost. The sink took the replies so far, and then that it was lost.
+-- The device was lost. The sink took the replies so far, of `gen` none, and then that it was lost.
 pub record WasLost (words : List (List ℕ)) (left left_after taken taken_after : Option (List ℕ)) (losses losses_after : ℕ) : Type 0 where
-  pub groups : List GroupHistory
-  pub ran : RanUntilLost words left left_after losses losses_after groups
-  pub written : Appends taken taken_after (replies_text groups Lost)
+  pub shown : List GroupHistory
+  pub ran : RanUntilLost words left left_after losses losses_after shown
+  pub written : Appends taken taken_after (replies_text shown Lost)
 
 -- the kinds of refusal beside the faults of a line: too many bytes came, and the trace is none that is served
 abbrev pub kind_of_long : ℕ
@@ -97,27 +151,40 @@ pub data IsRefusedAt (text : List ℕ) (line kind : ℕ) : Type 0 where
   unbuilt : (threads : List Plan) → Spells text threads → first_unbuilt threads ≡ Some line → kind ≡ kind_of_unbuilt →
       IsRefusedAt text line kind
 
--- why what came is refused: so is its text, or more than 67,108,864 bytes came
-abbrev pub IsRefusal : (left left_after : Option (List ℕ)) (line kind : ℕ) → Type 0
-IsRefusal left left_after line kind = (text : List ℕ) × Consumes left left_after text
-    × ((IsRefusedAt text line kind × IsAtEnd left_after × (length text ≤ 67108864))
-    ⊎ ((kind ≡ kind_of_long) × (line ≡ 0) × (67108864 < length text)))
+-- more than 67,108,864 bytes came, where the source is read
+abbrev pub IsTooLong : Output → Option (List ℕ) → Option (List ℕ) → Type 0
+IsTooLong output.Replies left left_after = (text : List ℕ) × Consumes left left_after text × (67108864 < length text)
+IsTooLong output.RepliesAndSummary left left_after = (text : List ℕ) × Consumes left left_after text × (67108864 < length text)
+IsTooLong output.SummaryAlone left left_after = ⊥
+
+-- why no trace is run: the text that is to be run is refused, or too much came
+abbrev pub IsRefusal : (seed : ℕ) (output : Output) (left left_after : Option (List ℕ)) (line kind : ℕ) → Type 0
+IsRefusal seed output left left_after line kind =
+    ((text : List ℕ) × IsBrought seed output left left_after text × IsRefusedAt text line kind)
+    ⊎ ((kind ≡ kind_of_long) × (line ≡ 0) × IsTooLong output left left_after)
+
+-- the same of the command that the words spell
+pub record WasRefused (words : List (List ℕ)) (left left_after : Option (List ℕ)) (line kind : ℕ) : Type 0 where
+  pub seed : ℕ
+  pub output : Output
+  pub named : Names words seed output
+  pub refusal : IsRefusal seed output left left_after line kind
 
 -- the text was refused, and the sink was told so
-pub record Refused (left left_after taken taken_after : Option (List ℕ)) (line kind : ℕ) : Type 0 where
-  pub refusal : IsRefusal left left_after line kind
+pub record Refused (words : List (List ℕ)) (left left_after taken taken_after : Option (List ℕ)) (line kind : ℕ) : Type 0 where
+  pub was : WasRefused words left left_after line kind
   pub written : Appends taken taken_after (refused_text line kind)
 
 -- a text that a run has to write: the usage line, a refusal, the replies to all lines, or those until the device was lost
 pub data IsWritten (words : List (List ℕ)) (left left_after : Option (List ℕ)) (losses losses_after : ℕ) (journal : List Logged)
     (text : List ℕ) : Type 0 where
-  usage : ¬ SpellsOnce words → text ≡ usage_line → IsWritten words left left_after losses losses_after journal text
-  refusal : (line kind : ℕ) → IsRefusal left left_after line kind → text ≡ refused_text line kind →
+  usage : ¬ IsServed words → text ≡ usage_line → IsWritten words left left_after losses losses_after journal text
+  refusal : (line kind : ℕ) → WasRefused words left left_after line kind → text ≡ refused_text line kind →
       IsWritten words left left_after losses losses_after journal text
-  replies : (groups : List GroupHistory) (tail : Tail) → RanWhole words left left_after groups tail journal →
-      text ≡ replies_text groups tail →
+  replies : (shown : List GroupHistory) (tail : Tail) → RanWhole words left left_after shown tail journal →
+      text ≡ replies_text shown tail →
       IsWritten words left left_after losses losses_after journal text
-  lost : (groups : List GroupHistory) → RanUntilLost words left left_after losses losses_after groups → text ≡ replies_text groups Lost →
+  lost : (shown : List GroupHistory) → RanUntilLost words left left_after losses losses_after shown → text ≡ replies_text shown Lost →
       IsWritten words left left_after losses losses_after journal text
 
 -- the sink took some front of such a text
@@ -131,30 +198,30 @@ pub record WasCutOff (words : List (List ℕ)) (left left_after taken taken_afte
 -- What is said
 
 -- why no trace came is so
-abbrev pub IsUnread : (left left_after : Option (List ℕ)) (reads reads_after : ℕ) → Said → Type 0
-IsUnread left left_after reads reads_after said.Usage = ⊥
-IsUnread left left_after reads reads_after (said.Refused line kind) = IsRefusal left left_after line kind
-IsUnread left left_after reads reads_after (said.Replies groups tail) = ⊥
-IsUnread left left_after reads reads_after (said.Lost groups) = ⊥
-IsUnread left left_after reads reads_after said.ReadFault = Rose reads reads_after
-IsUnread left left_after reads reads_after said.Memory = Unit {0}
+abbrev pub IsUnread : (seed : ℕ) (output : Output) (left left_after : Option (List ℕ)) (reads reads_after : ℕ) → Said → Type 0
+IsUnread seed output left left_after reads reads_after said.Usage = ⊥
+IsUnread seed output left left_after reads reads_after (said.Refused line kind) = IsRefusal seed output left left_after line kind
+IsUnread seed output left left_after reads reads_after (said.Replies groups tail) = ⊥
+IsUnread seed output left left_after reads reads_after (said.Lost groups) = ⊥
+IsUnread seed output left left_after reads reads_after said.ReadFault = Rose reads reads_after
+IsUnread seed output left left_after reads reads_after said.Memory = Unit {0}
 
 -- what a run of these threads has to say is so
-abbrev pub IsRunOf : (threads : List Plan) (seed : ℕ) (summary : Bool) (losses losses_after : ℕ) (journal : List Logged) → Said → Type 0
-IsRunOf threads seed summary losses losses_after journal said.Usage = ⊥
-IsRunOf threads seed summary losses losses_after journal (said.Refused line kind) = ⊥
-IsRunOf threads seed summary losses losses_after journal (said.Replies groups tail) =
-    RanAll threads seed groups.items journal × (tail ≡ tail_of summary groups.items journal)
-IsRunOf threads seed summary losses losses_after journal (said.Lost groups) =
-    AnswersFirst threads seed groups.items × Rose losses losses_after
-IsRunOf threads seed summary losses losses_after journal said.ReadFault = ⊥
-IsRunOf threads seed summary losses losses_after journal said.Memory = Unit {0}
+abbrev pub IsRunOf : (threads : List Plan) (seed : ℕ) (output : Output) (losses losses_after : ℕ) (journal : List Logged) → Said → Type 0
+IsRunOf threads seed output losses losses_after journal said.Usage = ⊥
+IsRunOf threads seed output losses losses_after journal (said.Refused line kind) = ⊥
+IsRunOf threads seed output losses losses_after journal (said.Replies groups tail) = Shows threads seed output journal groups.items tail
+IsRunOf threads seed output losses losses_after journal (said.Lost groups) =
+    ShowsFirst threads seed output losses losses_after groups.items
+IsRunOf threads seed output losses losses_after journal said.ReadFault = ⊥
+IsRunOf threads seed output losses losses_after journal said.Memory = Unit {0}
 
 -- what there is to say is so
 abbrev pub IsSaid : (words : List (List ℕ)) (left left_after : Option (List ℕ)) (reads reads_after losses losses_after : ℕ)
     (journal : List Logged) → Said → Type 0
-IsSaid words left left_after reads reads_after losses losses_after journal said.Usage = ¬ SpellsOnce words
-IsSaid words left left_after reads reads_after losses losses_after journal (said.Refused line kind) = IsRefusal left left_after line kind
+IsSaid words left left_after reads reads_after losses losses_after journal said.Usage = ¬ IsServed words
+IsSaid words left left_after reads reads_after losses losses_after journal (said.Refused line kind) =
+    WasRefused words left left_after line kind
 IsSaid words left left_after reads reads_after losses losses_after journal (said.Replies groups tail) =
     RanWhole words left left_after groups.items tail journal
 IsSaid words left left_after reads reads_after losses losses_after journal (said.Lost groups) =

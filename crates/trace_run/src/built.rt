@@ -59,7 +59,16 @@ fn is_built(call: &Call) -> bool
         | Call::UnmapBuffer { .. }
         | Call::MapRead { .. }
         | Call::MapWrite { .. }
-        | Call::PixelStore { .. } => true,
+        | Call::PixelStore { .. }
+        | Call::CreateSync { .. }
+        | Call::EglClientWaitSync { .. }
+        | Call::DestroySync { .. }
+        | Call::FenceSync { .. }
+        | Call::ClientWaitSync { .. }
+        | Call::WaitSync { .. }
+        | Call::DeleteSync { .. }
+        | Call::Flush
+        | Call::Finish => true,
         Call::Gen { kind, .. } | Call::Delete { kind, .. } => matches!(kind, ObjectKind::Buffer),
         Call::Bind { target, .. } => matches!(target, BindTarget::Buffer(_)),
         _ => false,

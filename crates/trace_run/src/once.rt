@@ -1,4 +1,4 @@
-// The command `once`, from the words to the status.
+// The commands `once` and `gen`, from the words to the status.
 ghost use Rattle.std.specs.Prelude.{◌≡◌, ◌≢◌, ◌≤◌, ◌<◌, ◌⊎◌, ◌↔◌, ℕ, Bool, IsTrue, List, [], length, map, Some, None, false, IfOk, IfErr, MatchOption};
 ghost use Rattle.std.specs.List.{All};
 ghost use Rattle.std.specs.String.{string_bytes};
@@ -12,13 +12,14 @@ ghost use Rattle.trace_text.specs.Reading.{Plan, plan};
 ghost use Rattle.trace_text.specs.Traces.{Spells};
 ghost use Rattle.trace_text.specs.Orders.{IsTrace};
 ghost use Rattle.trace_run.specs.Runs.{IsSound, first_unbuilt};
-ghost use Rattle.trace_run.specs.Once.{SpellsOnce, Names, Gives, Answered, WasLost, WasCutOff, MayAnswer, MayRefuse, MayRefuseLong, Refused, IsRefusedAt, IsSaid, IsUnread, usage_line};
+ghost use Rattle.trace_run.specs.Once.{SpellsOnce, SpellsGen, IsServed, Names, IsBrought, Gives, Answered, WasLost, WasCutOff, MayAnswer, MayRefuse, MayRefuseLong, Refused, IsRefusedAt, IsSaid, IsUnread, command_for, text_of_number, usage_line};
 
 use crate::built;
 use crate::run::run;
-use crate::saying::{Said, say};
+use crate::saying::{Output, Said, say};
 use command_line::{Command, command_of};
 use std::alloc::Global;
+use trace_gen::generate;
 use trace_io::{ReadStop, Sink, Source, Status, read_all};
 use trace_text::{ParseStop, Trace, parse, traces_are_in_order};
 use vk_device::{Device, devices_stay_in_order};
@@ -33,7 +34,8 @@ const UNBUILT: u8 = 10;
 
 /// Serves the command `once --seed N`, with a summary or without: reads a trace from the source, runs it on the device in the order of
 /// the schedule of N, writes the replies into the sink, and hands the device back. At status 6 the replies so far are written, at status 4
-/// and 7 nothing.
+/// and 7 nothing. Serves the command `gen N` too: makes the trace of the number N, runs it in the same way, and writes the summary without
+/// replies; it reads nothing.
 pub fn run_once<S: Source, K: Sink, D: Device>(
     alloc: Global,
     words: &[String],
@@ -45,19 +47,24 @@ pub fn run_once<S: Source, K: Sink, D: Device>(
     ensures ok { result.0 ≡ Status.Ok →
         Answered (map string_bytes words.now) (S.left source.old) (S.left source.new) (K.taken sink.old) (K.taken sink.new)
         (D.journal result.1) }
-    ensures usage { result.0 ≡ Status.Usage → ¬ SpellsOnce (map string_bytes words.now) }
+    ensures usage { result.0 ≡ Status.Usage → ¬ IsServed (map string_bytes words.now) }
     ensures usage_line { result.0 ≡ Status.Usage → Appends (K.taken sink.old) (K.taken sink.new) usage_line }
-    ensures served { SpellsOnce (map string_bytes words.now) → result.0 ≢ Status.Usage }
-    ensures unserved { ¬ SpellsOnce (map string_bytes words.now) → (result.0 ≡ Status.Usage) ⊎ (result.0 ≡ Status.WriteFault) }
-    ensures untouched { ¬ SpellsOnce (map string_bytes words.now) → (source.new ≡ source.old) × (result.1 ≡ device) }
+    ensures served { IsServed (map string_bytes words.now) → result.0 ≢ Status.Usage }
+    ensures unserved { ¬ IsServed (map string_bytes words.now) → (result.0 ≡ Status.Usage) ⊎ (result.0 ≡ Status.WriteFault) }
+    ensures untouched { ¬ IsServed (map string_bytes words.now) → (source.new ≡ source.old) × (result.1 ≡ device) }
+    ensures unread { (number : ℕ) → SpellsGen (map string_bytes words.now) number → source.new ≡ source.old }
     ensures trace { (line kind : ℕ) → result.0 ≡ Status.Trace line kind →
-        Refused (S.left source.old) (S.left source.new) (K.taken sink.old) (K.taken sink.new) line kind }
+        Refused (map string_bytes words.now) (S.left source.old) (S.left source.new) (K.taken sink.old) (K.taken sink.new) line kind }
     ensures refused { (text : List ℕ) (line kind : ℕ) → S.left source.old ≡ Some text → length text ≤ 67108864 →
         SpellsOnce (map string_bytes words.now) → IsRefusedAt text line kind → MayRefuse line kind result.0 }
+    ensures made_refused { (number line kind : ℕ) → SpellsGen (map string_bytes words.now) number →
+        IsRefusedAt (text_of_number number) line kind → MayRefuse line kind result.0 }
     ensures too_long { (text : List ℕ) → S.left source.old ≡ Some text → 67108864 < length text → SpellsOnce (map string_bytes words.now) →
         MayRefuseLong result.0 }
     ensures answered { (text : List ℕ) (threads : List Plan) → S.left source.old ≡ Some text → SpellsOnce (map string_bytes words.now) →
         Spells text threads → first_unbuilt threads ≡ None → MayAnswer result.0 }
+    ensures made_answered { (number : ℕ) (threads : List Plan) → SpellsGen (map string_bytes words.now) number →
+        Spells (text_of_number number) threads → first_unbuilt threads ≡ None → MayAnswer result.0 }
     ensures read_fault { result.0 ≡ Status.ReadFault → Rose (S.faults source.old) (S.faults source.new) }
     ensures write_fault { result.0 ≡ Status.WriteFault → Rose (K.faults sink.old) (K.faults sink.new) }
     ensures cut_off { result.0 ≡ Status.WriteFault →
@@ -83,40 +90,37 @@ fn outcome<S: Source, D: Device>(
     requires { D.journal device ≡ [] }
     ensures said { IsSaid (map string_bytes words.now) (S.left source.old) (S.left source.new) (S.faults source.old) (S.faults source.new)
         (D.faults device) (D.faults result.1) (D.journal result.1) result.0 }
-    ensures unserved { ¬ SpellsOnce (map string_bytes words.now) → result.0 ≡ Said.Usage }
-    ensures untouched { ¬ SpellsOnce (map string_bytes words.now) → (source.new ≡ source.old) × (result.1 ≡ device) }
+    ensures unserved { ¬ IsServed (map string_bytes words.now) → result.0 ≡ Said.Usage }
+    ensures untouched { ¬ IsServed (map string_bytes words.now) → (source.new ≡ source.old) × (result.1 ≡ device) }
+    ensures unread { (number : ℕ) → SpellsGen (map string_bytes words.now) number → source.new ≡ source.old }
     ensures clean { IsClean (D.journal result.1) }
 {
     devices_stay_in_order::<D>();
     match order_in(words) {
         None => (Said::Usage, device),
-        Some((seed, summary)) => match trace_in(alloc, source) {
-            Ok(trace) => run(alloc, device, trace, seed, summary),
+        Some((seed, output)) => match trace_in(alloc, source, seed, output) {
+            Ok(trace) => run(alloc, device, trace, seed, output),
             Err(said) => (said, device),
         },
     }
 }
 
 // The trace that is to be run, or what there is to say in its place.
-fn trace_in<S: Source>(alloc: Global, source: &mut S) -> Result<Trace, Said>
-    ensures gives { IfOk result (λ trace. Gives (S.left source.old) (S.left source.new) (map plan trace.threads.items)) }
+fn trace_in<S: Source>(
+    alloc: Global,
+    source: &mut S,
+    seed: u64,
+    output: Output,
+) -> Result<Trace, Said>
+    ensures gives { IfOk result (λ trace. Gives seed output (S.left source.old) (S.left source.new) (map plan trace.threads.items)) }
     ensures sound { IfOk result (λ trace. All IsSound (map plan trace.threads.items)) }
     ensures ordered { IfOk result (λ trace. IsTrace (map plan trace.threads.items)) }
     ensures unread { IfErr result
-        (λ said. IsUnread (S.left source.old) (S.left source.new) (S.faults source.old) (S.faults source.new) said) }
+        (λ said. IsUnread seed output (S.left source.old) (S.left source.new) (S.faults source.old) (S.faults source.new) said) }
+    ensures untouched { output ≡ Output.SummaryAlone → source.new ≡ source.old }
 {
     traces_are_in_order();
-    let text = match read_all(alloc, source, LIMIT) {
-        Ok(text) => text,
-        Err(ReadStop::TooLong) => {
-            return Err(Said::Refused {
-                line: 0,
-                kind: TOO_LONG,
-            });
-        }
-        Err(ReadStop::Failed) => return Err(Said::ReadFault),
-        Err(ReadStop::Memory) => return Err(Said::Memory),
-    };
+    let text = text_in(alloc, source, seed, output)?;
     let trace = match parse(alloc, &text) {
         Ok(trace) => trace,
         Err(ParseStop::Fault { line, kind }) => return Err(Said::Refused { line, kind }),
@@ -131,15 +135,56 @@ fn trace_in<S: Source>(alloc: Global, source: &mut S) -> Result<Trace, Said>
     }
 }
 
-// The seed of the command, and whether a summary is asked for, where the words are those of one that is served.
-fn order_in(words: &[String]) -> Option<(u64, bool)>
-    ensures { MatchOption result (¬ SpellsOnce (map string_bytes words.now)) (λ order. Names (map string_bytes words.now) order.0 order.1) }
+// The text that is to be run, or what there is to say in its place.
+fn text_in<S: Source>(
+    alloc: Global,
+    source: &mut S,
+    seed: u64,
+    output: Output,
+) -> Result<Vec<u8>, Said>
+    ensures brought { IfOk result (λ text. IsBrought seed output (S.left source.old) (S.left source.new) text.items) }
+    ensures unread { IfErr result
+        (λ said. IsUnread seed output (S.left source.old) (S.left source.new) (S.faults source.old) (S.faults source.new) said) }
+    ensures untouched { output ≡ Output.SummaryAlone → source.new ≡ source.old }
+{
+    match output {
+        Output::Replies | Output::RepliesAndSummary => match read_all(alloc, source, LIMIT) {
+            Ok(text) => Ok(text),
+            Err(ReadStop::TooLong) => Err(Said::Refused {
+                line: 0,
+                kind: TOO_LONG,
+            }),
+            Err(ReadStop::Failed) => Err(Said::ReadFault),
+            Err(ReadStop::Memory) => Err(Said::Memory),
+        },
+        Output::SummaryAlone => match generate(alloc, seed) {
+            Ok(text) => Ok(text),
+            Err(_) => Err(Said::Memory),
+        },
+    }
+}
+
+// The seed of the command, or the number of its trace, and what is written of the run, where the words are those of a command that is
+// served.
+fn order_in(words: &[String]) -> Option<(u64, Output)>
+    ensures { MatchOption result (¬ IsServed (map string_bytes words.now)) (λ order. Names (map string_bytes words.now) order.0 order.1) }
 {
     match command_of(words) {
-        Some(Command::Once { seed, summary }) => Some((seed, summary)),
+        Some(Command::Once { seed, summary }) => Some((seed, replies_with(summary))),
+        Some(Command::Gen { number }) => Some((number, Output::SummaryAlone)),
         Some(Command::Threads { .. }) => None,
-        Some(Command::Gen { .. }) => None,
         None => None,
+    }
+}
+
+// The replies, with a summary or without.
+fn replies_with(summary: bool) -> Output
+    ensures { (seed : ℕ) → command_for seed result ≡ Command.Once seed summary }
+{
+    if summary {
+        Output::RepliesAndSummary
+    } else {
+        Output::Replies
     }
 }
 

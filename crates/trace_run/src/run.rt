@@ -9,9 +9,9 @@ ghost use Rattle.play_model.specs.Plays.{opening_play};
 ghost use Rattle.world_core.specs.World.{play_of};
 ghost use Rattle.trace_run.specs.Runs.{IsSound, first_unbuilt};
 ghost use Rattle.trace_run.specs.Led.{WasLed, WasLedOn};
-ghost use Rattle.trace_run.specs.Once.{IsRunOf, tail_of};
+ghost use Rattle.trace_run.specs.Once.{IsRunOf, shown_of, tail_of};
 
-use crate::saying::Said;
+use crate::saying::{Output, Said};
 use reply_text::{GroupHistory, Tail};
 use run_summary::counts_of;
 use schedule::{calls_are_made, play};
@@ -27,13 +27,13 @@ pub(crate) fn run<D: Device>(
     device: D,
     trace: Trace,
     seed: u64,
-    summary: bool,
+    output: Output,
 ) -> (Said, D)
     requires empty { D.journal device ≡ [] }
     requires built { first_unbuilt (map plan trace.threads.items) ≡ None }
     requires sound { All IsSound (map plan trace.threads.items) }
     requires ordered { IsTrace (map plan trace.threads.items) }
-    ensures said { IsRunOf (map plan trace.threads.items) seed summary (D.faults device) (D.faults result.1) (D.journal result.1) result.0 }
+    ensures said { IsRunOf (map plan trace.threads.items) seed output (D.faults device) (D.faults result.1) (D.journal result.1) result.0 }
     ensures clean { IsClean (D.journal result.1) }
 {
     let mut world = match World::new(alloc, trace, device) {
@@ -44,11 +44,17 @@ pub(crate) fn run<D: Device>(
     world.is_lawful();
     let (groups, device) = world.finish();
     match answer {
-        Ok(()) => match tail(alloc, &groups, device.journal(), summary) {
-            Ok(tail) => (Said::Replies { groups, tail }, device),
+        Ok(()) => match tail(alloc, &groups, device.journal(), output) {
+            Ok(tail) => {
+                let groups = shown(alloc, groups, output);
+                (Said::Replies { groups, tail }, device)
+            }
             Err(_) => (Said::Memory, device),
         },
-        Err(Stop::Lost) => (Said::Lost { groups }, device),
+        Err(Stop::Lost) => {
+            let groups = shown(alloc, groups, output);
+            (Said::Lost { groups }, device)
+        }
         Err(Stop::Memory) => (Said::Memory, device),
     }
 }
@@ -66,18 +72,29 @@ fn play_and_close<D: Device>(world: &mut World<D>, seed: u64) -> Result<(), Stop
     world.close()
 }
 
-// How the replies to all lines end.
+// The histories that are written.
+fn shown(alloc: Global, groups: Vec<GroupHistory>, output: Output) -> Vec<GroupHistory>
+    ensures { result.items ≡ shown_of output groups.items }
+{
+    match output {
+        Output::Replies | Output::RepliesAndSummary => groups,
+        Output::SummaryAlone => Vec::new(alloc),
+    }
+}
+
+// How what is written of a run ends, where all lines were answered.
 fn tail(
     alloc: Global,
     groups: &[GroupHistory],
     journal: &[Logged],
-    summary: bool,
+    output: Output,
 ) -> Result<Tail, AllocError>
-    ensures { IfOk result (λ tail. tail ≡ tail_of summary groups.now journal.now) }
+    ensures { IfOk result (λ tail. tail ≡ tail_of output groups.now journal.now) }
 {
-    if summary {
-        Ok(Tail::Summary(counts_of(alloc, groups, journal)?))
-    } else {
-        Ok(Tail::End)
+    match output {
+        Output::Replies => Ok(Tail::End),
+        Output::RepliesAndSummary | Output::SummaryAlone => {
+            Ok(Tail::Summary(counts_of(alloc, groups, journal)?))
+        }
     }
 }

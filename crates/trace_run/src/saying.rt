@@ -6,9 +6,17 @@ use reply_text::{GroupHistory, Tail, render};
 use std::alloc::{AllocError, Global};
 use trace_io::{Sink, Status, USAGE_LINE, write_all};
 
+/// What is written of a run: the replies, with a summary or without, or the summary alone.
+#[derive(Clone, Copy, Debug)]
+pub(crate) enum Output {
+    Replies,
+    RepliesAndSummary,
+    SummaryAlone,
+}
+
 /// What a run has to say: the words are of no command that is served, the text is refused, the replies to all lines, those
 /// until the device was lost, or nothing since the source failed or memory ran out. The tail of the replies to
-/// all lines has the summary, where one was asked for.
+/// all lines has the summary, where one was asked for. Where the summary alone is written, there are no replies.
 #[derive(Debug, Drop)]
 pub(crate) enum Said {
     Usage,

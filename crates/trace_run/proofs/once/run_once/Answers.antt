@@ -1,4 +1,4 @@
-use Rattle.trace_run.proofs.Ends.{ok, usage, trace, refused, too_long, answered, read_fault, cut_off, lost, silent, usage_alone}
+use Rattle.trace_run.proofs.Ends.{ok, usage, trace, refused, made_refused, too_long, answered, made_answered, read_fault, cut_off, lost, silent, usage_alone}
 use Rattle.trace_run.proofs.once.run_once.Goals as goal
 
 pub returns-clause-ok : goal.returns-clause-ok
@@ -23,6 +23,14 @@ returns-clause-too_long g c = too_long _ _ _ _ _ _ _ _ _ _ _ _ _ c.outcome-said.
 
 pub returns-clause-answered : goal.returns-clause-answered
 returns-clause-answered g c = answered _ _ _ _ _ _ _ _ _ _ _ _ _ c.outcome-said.result.0 c.outcome-said.ensures.said c.say-status.ensures
+
+pub returns-clause-made_refused : goal.returns-clause-made_refused
+returns-clause-made_refused g c =
+    made_refused _ _ _ _ _ _ _ _ _ _ _ _ _ c.outcome-said.result.0 c.outcome-said.ensures.said c.say-status.ensures
+
+pub returns-clause-made_answered : goal.returns-clause-made_answered
+returns-clause-made_answered g c =
+    made_answered _ _ _ _ _ _ _ _ _ _ _ _ _ c.outcome-said.result.0 c.outcome-said.ensures.said c.say-status.ensures
 
 pub returns-clause-read_fault : goal.returns-clause-read_fault
 returns-clause-read_fault g c =
