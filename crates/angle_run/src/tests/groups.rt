@@ -69,7 +69,7 @@ struct Together {
     replies: &'static str,
 }
 
-const TOGETHER: [Together; 5] = [
+const TOGETHER: [Together; 6] = [
     Together {
         shows: "numbers of contexts are those of a group, and a declared group without calls has its line",
         text: "angle-trace 1\nthread 0 group 0\nthread 1 group 3\nthread 2 group 6\nbegin\n\
@@ -118,6 +118,18 @@ const TOGETHER: [Together; 5] = [
         replies: "angle-reply 1\ngroup 1\n0 15 ok\n3 16 taken\n6 17 ok\n9 18 taken\n\
             group 4\n1 19 ok\n4 20 ok\n7 21 err BAD_ACCESS\n10 22 value SUCCESS\n\
             group 5\n2 23 no-context\n5 24 value SUCCESS\n8 25 err BAD_CONTEXT\n11 26 ok\nend\n",
+    },
+    Together {
+        shows: "fences of one context are asked and waited for by another",
+        text: "angle-trace 1\nthread 0 group 2\nthread 1 group 2\nbegin\n\
+            0 ecreate 1\n0 ecurrent 1\n0 bind array 1\n0 bdata array 4 static_draw 00000000\n0 bsub array 0 0102\n\
+            0 fence 1 gpu 0\n0 finish\n0 fence 2 gpu 0\n\
+            1 @12 ecreate 2\n1 ecurrent 2\n1 cwait 1 0 0\n1 cwait 2 0 0\n1 cwait 2 0 1000\n1 swait 1 0 ignored\n\
+            1 bind copy_read 1\n1 bmap copy_read 0 4 r\n1 mread copy_read 0 4\n\
+            1 delsync 1\n0 @22 cwait 1 0 0\nend\n",
+        replies: "angle-reply 1\ngroup 2\n0 5 ok\n0 6 ok\n0 7 ok\n0 8 ok\n0 9 ok\n0 10 ok\n0 11 ok\n0 12 ok\n\
+            1 13 ok\n1 14 ok\n1 15 value ALREADY_SIGNALED\n1 16 value TIMEOUT_EXPIRED\n1 17 value CONDITION_SATISFIED\n\
+            1 18 ok\n1 19 ok\n1 20 ok\n1 21 bytes 01020000\n1 22 ok\n0 23 value WAIT_FAILED INVALID_VALUE\nend\n",
     },
 ];
 

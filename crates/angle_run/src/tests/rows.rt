@@ -7,7 +7,7 @@ pub(crate) struct Row {
     pub(crate) replies: &'static str,
 }
 
-pub(crate) const ROWS: [Row; 12] = [
+pub(crate) const ROWS: [Row; 16] = [
     Row {
         shows: "what was filled is read through a map",
         calls: "0 bind copy_read 1\n\
@@ -164,5 +164,63 @@ pub(crate) const ROWS: [Row; 12] = [
             0 ecurrent 1\n\
             0 get max_texture_size\n",
         replies: "0 6 ok\n0 7 ok\n0 8 ok\n0 9 ok\n0 10 ok\n0 11 ok\n0 12 ok\n0 13 ok\n0 14 ok\n0 15 ok\n0 16 bytes -\n0 17 ok\n0 18 bytes 0305\n0 19 no-map\n0 20 err INVALID_OPERATION\n0 21 ok\n0 22 no-context\n0 23 no-context\n0 24 value SUCCESS\n0 25 ok\n0 26 value 2048\n",
+    },
+    Row {
+        shows: "a fence of a context that ended is signalled, and one of the next context of its index is waited for",
+        calls: "0 bind array 1\n\
+            0 bdata array 4 static_draw 01020304\n\
+            0 fence 1 gpu 0\n\
+            0 finish\n\
+            0 ecurrent 0\n\
+            0 edestroy 1\n\
+            0 ecreate 2\n\
+            0 ecurrent 2\n\
+            0 fence 2 gpu 0\n\
+            0 cwait 1 0 0\n\
+            0 cwait 2 0 0\n\
+            0 cwait 2 1 1000\n",
+        replies: "0 6 ok\n0 7 ok\n0 8 ok\n0 9 ok\n0 10 ok\n0 11 ok\n0 12 ok\n0 13 ok\n0 14 ok\n\
+            0 15 value ALREADY_SIGNALED\n0 16 value TIMEOUT_EXPIRED\n0 17 value CONDITION_SATISFIED\n",
+    },
+    Row {
+        shows: "a fence is not signalled before its batch is handed over, and is so after a finish",
+        calls: "0 fence 1 gpu 0\n\
+            0 cwait 1 0 0\n\
+            0 finish\n\
+            0 cwait 1 0 0\n\
+            0 delsync 1\n\
+            0 cwait 1 0 0\n\
+            0 gerror\n",
+        replies: "0 6 ok\n0 7 value TIMEOUT_EXPIRED\n0 8 ok\n0 9 value ALREADY_SIGNALED\n0 10 ok\n\
+            0 11 value WAIT_FAILED INVALID_VALUE\n0 12 value INVALID_VALUE\n",
+    },
+    Row {
+        shows: "a sync of EGL is waited for, and is gone once it is destroyed",
+        calls: "0 esync 1\n\
+            0 ewait 1 0 0\n\
+            0 ewait 1 1 5\n\
+            0 ewait 1 0 0\n\
+            0 edelsync 1\n\
+            0 edelsync 1\n\
+            0 eerror\n",
+        replies: "0 6 ok\n0 7 value TIMEOUT_EXPIRED\n0 8 value CONDITION_SATISFIED\n0 9 value CONDITION_SATISFIED\n\
+            0 10 ok\n0 11 err BAD_PARAMETER\n0 12 value BAD_PARAMETER\n",
+    },
+    Row {
+        shows: "a wait for an older sync says nothing of a later one, and a wait for a later one tells of the older",
+        calls: "0 fence 1 gpu 0\n\
+            0 cwait 1 0 1\n\
+            0 esync 1\n\
+            0 fence 2 gpu 0\n\
+            0 ewait 1 0 0\n\
+            0 cwait 2 0 1\n\
+            0 ewait 1 0 0\n\
+            0 cwait 1 0 0\n\
+            0 swait 2 0 ignored\n\
+            0 swait 3 0 ignored\n\
+            0 cwait 2 2 0\n",
+        replies: "0 6 ok\n0 7 value CONDITION_SATISFIED\n0 8 ok\n0 9 ok\n0 10 value TIMEOUT_EXPIRED\n\
+            0 11 value CONDITION_SATISFIED\n0 12 value CONDITION_SATISFIED\n0 13 value ALREADY_SIGNALED\n0 14 ok\n\
+            0 15 err INVALID_VALUE\n0 16 value WAIT_FAILED INVALID_VALUE\n",
     },
 ];

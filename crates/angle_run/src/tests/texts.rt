@@ -58,7 +58,7 @@ fn a_call_that_is_not_built_is_refused_at_its_line(rt: HostRuntime) -> Result<()
     let cases = [
         ("0 bind array 1\n0 bind texture 1\n0 flush\n", 7),
         ("0 gen texture 1\n", 6),
-        ("# a remark\n\n0 finish\n", 8),
+        ("# a remark\n\n0 status framebuffer\n", 8),
     ];
     for (calls, line) in cases {
         let (status, sink) = written(alloc, trace(alloc, calls)?)?;
@@ -93,6 +93,31 @@ fn other_words_get_the_usage(rt: HostRuntime) -> Result<(), Fail> {
         );
         assert!(rt; status == Status::Usage);
         assert!(rt; sink.bytes() == usage.as_bytes());
+    }
+    Ok(())
+}
+
+// What is not built yet is refused in a trace that is made, too: its seventh call of thread 0 binds a texture. The source fails at its
+// first read, and is not read.
+#[test]
+fn a_made_trace_is_run_without_a_source(rt: HostRuntime) -> Result<(), Fail> {
+    let alloc = rt.alloc();
+    for number in ["0", "7", "18446744073709551615"] {
+        let words = words(alloc, &["gen", number])?;
+        let mut source = MemorySource::new(Vec::new(alloc), Vec::from_slice(alloc, &[1])?);
+        let mut sink = MemorySink::new(alloc, 4096, 4096, Vec::new(alloc))?;
+        let (status, _) = run_once(
+            alloc,
+            &words,
+            &mut source,
+            &mut sink,
+            FakeDevice::first(alloc),
+        );
+        assert!(rt; status == Status::Trace { line: 13, kind: 10 }, "{number}");
+        assert!(rt;
+            sink.bytes() == "angle-reply 1\nrefused 13 10\n".as_bytes(),
+            "{number}"
+        );
     }
     Ok(())
 }
