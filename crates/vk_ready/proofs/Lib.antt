@@ -5,3 +5,4 @@ pub mod Watching
 pub mod Order
 pub mod Sharing
 pub mod Buckets
+pub mod Halves

@@ -1,12 +1,12 @@
 -- The ready slots are the ready nodes, in the same order.
 use Rattle.std.proofs.Common.{◌≡◌, ℕ, zero, suc, ◌+◌, ◌<◌, ◌≤◌, List, [], ◌∷◌, ◌++◌, length, get_or, set, map, Bool, true, false, cond, refl, sym, ◌∙◌, ap, subst, arith, inl, inr}
-use Rattle.std.specs.Prelude.{◌⊎◌, ◌↔◌, Option, Some, None, slice_get, Contains}
+use Rattle.std.specs.Prelude.{Option, Some, None, slice_get}
 use Rattle.std.specs.List.{filter, range_with_len, remove}
-use Rattle.std.proofs.lemmas.Bool.{cases_eq, cases_lt, false≢true}
+use Rattle.std.proofs.lemmas.Bool.{cases_lt, false≢true}
 use Rattle.std.proofs.lemmas.Option.{slice_get_within}
 use Rattle.vk_ready.specs.declared.nodes.WaitingNode.{WaitingNode}
 use Rattle.vk_ready.specs.Ready.{is_ready, ready_places, ready_place, edge}
-use Rattle.vk_ready.specs.Slots.{in_slot, with_slot, waiting_in, edge_from, Has, Rises, IsBehind, IsHeld, IsOffered, IsWatched}
+use Rattle.vk_ready.specs.Slots.{in_slot, waiting_in, edge_from, Has, Rises, IsOffered, IsWatched}
 use Rattle.vk_ready.proofs.Places.{exact}
 use Rattle.vk_ready.proofs.Readiness.{At, item_at}
 use Rattle.vk_ready.proofs.Watching.{in_slot_within}

@@ -1,8 +1,8 @@
 -- Which nodes of a list are ready.
-use Rattle.std.proofs.Common.{◌≡◌, ℕ, zero, suc, ◌+◌, ◌<◌, ◌≤◌, List, [], ◌∷◌, ◌++◌, length, get_or, take, Bool, true, false, cond, eqb, refl, sym, ◌∙◌, ap, zero-add, arith, inl, inr}
-use Rattle.std.specs.Prelude.{not, ◌||◌, ◌⊎◌, ◌↔◌, Some, slice_get}
+use Rattle.std.proofs.Common.{◌≡◌, ℕ, zero, suc, ◌+◌, ◌<◌, ◌≤◌, List, [], ◌∷◌, length, get_or, take, Bool, true, false, refl, sym, ◌∙◌, ap, arith, inl, inr}
+use Rattle.std.specs.Prelude.{◌⊎◌, ◌↔◌, Some, slice_get}
 use Rattle.std.specs.List.{list_any}
-use Rattle.std.proofs.lemmas.Bool.{ne_eqb, false≢true, cases_lt, not-true, not_from_false, or_from, or_parts}
+use Rattle.std.proofs.lemmas.Bool.{false≢true, cases_lt, not-true, not_from_false, or_from, or_parts}
 use Rattle.std.proofs.lemmas.List.Folds.{list_any_more}
 use Rattle.std.proofs.lemmas.Option.{slice_get_within, slice_get_past, get_or_from_slice_get}
 use Rattle.vk_ready.specs.declared.nodes.WaitingNode.{WaitingNode}

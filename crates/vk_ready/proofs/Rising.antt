@@ -1,11 +1,8 @@
 -- Lists of numbers that rise.
-use Rattle.std.proofs.Common.{◌≡◌, ℕ, zero, suc, ◌+◌, ◌<◌, ◌≤◌, List, [], ◌∷◌, ◌++◌, length, get_or, take, drop, refl, sym, ◌∙◌, ap, subst, arith, inl, inr}
-use Rattle.std.specs.Prelude.{◌⊎◌, ◌↔◌, Result, Ok, Err, Contains}
+use Rattle.std.proofs.Common.{◌≡◌, ℕ, zero, suc, ◌+◌, ◌<◌, ◌≤◌, List, [], ◌∷◌, length, get_or, refl, sym, ◌∙◌, ap, arith, inl, inr}
+use Rattle.std.specs.Prelude.{◌⊎◌, ◌↔◌, Contains}
 use Rattle.std.specs.List.{insert, remove}
-use Rattle.std.specs.List.Sorted.{IsBinarySearchResult}
-use Rattle.std.specs.Ordering.{nat_cmp}
 use Rattle.std.proofs.lemmas.Bool.{cases_eq, cases_lt}
-use Rattle.std.proofs.lemmas.List.Sorted.{searched}
 use Rattle.vk_ready.specs.Slots.{Has, Rises}
 
 -- the number at a place is one of the list
@@ -21,12 +18,6 @@ rises_below (n ∷ ns) r zero (suc j) lt inside = r.0 (get_or ns j 0) (has_at ns
 rises_below (n ∷ ns) r (suc i) zero lt inside = absurd (omega arith)
 rises_below (n ∷ ns) r (suc i) (suc j) lt inside = rises_below ns r.1 i j (omega arith) (omega arith)
 
-pub not_falling : (ns : List ℕ) → Rises ns → (i j : ℕ) → i ≤ j → j < length ns → get_or ns i 0 ≤ get_or ns j 0
-not_falling ns r i j le inside = elim (cases_eq i j) [
-  | inl same ↦ let e : get_or ns i 0 ≡ get_or ns j 0 = ap (λ k. get_or ns k 0) same in omega arith
-  | inr other ↦ let lt : get_or ns i 0 < get_or ns j 0 = rises_below ns r i j (omega (arith, le, other)) inside in omega arith
-]
-
 -- One more number
 
 pub has_inserted : (ns : List ℕ) (i n k : ℕ) → i ≤ length ns → Has (insert ns i n) k ↔ ((k ≡ n) ⊎ Has ns k)
@@ -38,10 +29,10 @@ has_inserted (m ∷ ns) (suc i) n k le = let rest : Has (insert ns i n) k ↔ ((
 )
 
 -- each number from a place on is above
-abbrev IsAbove : List ℕ → ℕ → ℕ → Type 0
+abbrev pub IsAbove : List ℕ → ℕ → ℕ → Type 0
 IsAbove ns i n = (k : ℕ) → i ≤ k → k < length ns → n < get_or ns k 0
 
-abbrev IsBelow : List ℕ → ℕ → ℕ → Type 0
+abbrev pub IsBelow : List ℕ → ℕ → ℕ → Type 0
 IsBelow ns i n = (k : ℕ) → k < i → get_or ns k 0 < n
 
 above_all : (ns : List ℕ) (n : ℕ) → IsAbove ns 0 n → (k : ℕ) → Has ns k → n < k
@@ -55,35 +46,6 @@ rises_inserted [] (suc i) n r le down up = absurd (omega arith)
 rises_inserted (m ∷ ns) (suc i) n r le down up = (
   λ k h. elim ((has_inserted ns i n k (omega arith)).0 h) [ inl e ↦ let lt : m < n = down 0 (omega arith) in omega (arith, lt, e) | inr h' ↦ r.0 k h' ],
   rises_inserted ns i n r.1 (omega arith) (λ k lt. down (suc k) (omega (arith, lt))) (λ k le' lt. up (suc k) (omega (arith, le')) (omega (arith, lt))),
-)
-
--- what a search says of a number that is not there
-pub record IsPlaced (ns : List ℕ) (i n : ℕ) : Type 0 where
-  pub inside : i ≤ length ns
-  pub rises : Rises (insert ns i n)
-
-pub placed : (ns : List ℕ) (n : ℕ) (r : Result ℕ ℕ) (i : ℕ) → Rises ns → (Has ns n → ⊥) → IsBinarySearchResult (λ y. nat_cmp y n) ns r → (r ≡ Ok i) ⊎ (r ≡ Err i) → IsPlaced ns i n
-placed ns n (Ok j) i up new found is =
-    let at = searched ns n (Ok j) found (not_falling ns up) in
-    absurd (new (subst (Has ns) at.1 (has_at ns j at.0)))
-placed ns n (Err j) i up new found (inl e) = cc
-placed ns n (Err j) i up new found (inr e) =
-    let at = searched ns n (Err j) found (not_falling ns up) in
-    let same : j ≡ i = cc in
-    subst (λ k. IsPlaced ns k n) same (record { inside = at.0; rises = rises_inserted ns j n up at.0 at.1 at.2 })
-
-pub has_pushed : (ns : List ℕ) (n k : ℕ) → Has (ns ++ n ∷ []) k ↔ ((k ≡ n) ⊎ Has ns k)
-has_pushed [] n k = (λ h. h, λ h. h)
-has_pushed (m ∷ ns) n k = let rest : Has (ns ++ n ∷ []) k ↔ ((k ≡ n) ⊎ Has ns k) = has_pushed ns n k in (
-  λ h. elim h [ inl e ↦ inr (inl e) | inr h' ↦ elim (rest.0 h') [ inl e ↦ inl e | inr h'' ↦ inr (inr h'') ] ],
-  λ h. elim h [ inl e ↦ inr (rest.1 (inl e)) | inr h' ↦ elim h' [ inl e ↦ inl e | inr h'' ↦ inr (rest.1 (inr h'')) ] ],
-)
-
-pub rises_pushed : (ns : List ℕ) (n : ℕ) → Rises ns → ((k : ℕ) → Has ns k → k < n) → Rises (ns ++ n ∷ [])
-rises_pushed [] n r below = ((λ k h. absurd h), r)
-rises_pushed (m ∷ ns) n r below = (
-  λ k h. elim ((has_pushed ns n k).0 h) [ inl e ↦ let lt : m < n = below m (inl refl) in omega (arith, lt, e) | inr h' ↦ r.0 k h' ],
-  rises_pushed ns n r.1 (λ k h. below k (inr h)),
 )
 
 -- One number less

@@ -1,11 +1,10 @@
 -- Steps that keep what each slot watches.
-use Rattle.std.proofs.Common.{◌≡◌, ℕ, zero, suc, ◌+◌, ◌<◌, ◌≤◌, List, [], ◌∷◌, ◌++◌, length, get_or, set, min, Bool, true, false, refl, sym, ◌∙◌, ap, subst, arith, inl, inr}
+use Rattle.std.proofs.Common.{◌≡◌, ℕ, zero, suc, ◌+◌, ◌<◌, ◌≤◌, List, [], ◌∷◌, ◌++◌, length, get_or, set, min, true, refl, sym, ◌∙◌, ap, subst, arith, inl, inr}
 use Rattle.std.specs.Prelude.{◌⊎◌, ◌↔◌, Option, Some, None}
-use Rattle.std.proofs.lemmas.Bool.{cases_eq, cases_lt, false≢true}
+use Rattle.std.proofs.lemmas.Bool.{cases_eq, cases_lt}
 use Rattle.std.proofs.lemmas.List.{length-set, get_or-set_same, get_or-set_other, get_or_append_left, length-append}
 use Rattle.vk_ready.specs.declared.nodes.WaitingNode.{WaitingNode}
-use Rattle.vk_ready.proofs.Rising.{few, fewer, rises_pushed, has_pushed}
-use Rattle.vk_ready.specs.Slots.{in_slot, edge_from, IsFreeOf, AreGone, Has, Rises, AreStarts, IsBehind, IsLeft, IsHeld, IsOffered, IsWatched}
+use Rattle.vk_ready.specs.Slots.{in_slot, edge_from, IsFreeOf, AreGone, Has, Rises, AreStarts, IsHeld, IsOffered, IsWatched}
 
 -- nothing stands past the last slot
 in_slot_past : (slots : List (Option WaitingNode)) (k : ℕ) → length slots ≤ k → in_slot slots k ≡ None
@@ -91,11 +90,6 @@ module _ (slots : List (Option WaitingNode)) (holders ends ready : List ℕ) (go
           ];
         }
 
-    pub room_left : length ready < length slots
-    room_left =
-        let few_ready : 0 + length ready < length slots = fewer ready 0 (length slots) i kept.rises (λ k h. let o = kept.offered k h in (omega arith, in_slot_within slots k o.node o.at)) (omega arith) inside not_ready in
-        omega arith
-
     -- it waits for none
     pub watched_ready : (ready' : List ℕ) → holder ≡ 0 → Rises ready' → ((k : ℕ) → Has ready' k ↔ ((k ≡ i) ⊎ Has ready k)) → IsWatched slots new ends ready' gone (i + 1) end
     watched_ready ready' none rises holds = record {
@@ -153,12 +147,6 @@ module _ (slots : List (Option WaitingNode)) (holders ends ready : List ℕ) (go
         | inr ne ↦ kept.all k later at_k (sym (there k ne) ∙ zero_is)
       ];
     }
-
--- as many are ready as there are slots, at most
-pub few_ready : (slots : List (Option WaitingNode)) (holders ends ready : List ℕ) (gone from end : ℕ) → IsWatched slots holders ends ready gone from end → length ready ≤ length slots
-few_ready slots holders ends ready gone from end kept =
-    let bound : 0 + length ready ≤ length slots = few ready 0 (length slots) (omega arith) kept.rises (λ k h. let o = kept.offered k h in (omega arith, in_slot_within slots k o.node o.at)) in
-    omega arith
 
 -- no slot is left that names the one that ran
 pub watched_all : (slots : List (Option WaitingNode)) (holders ends ready : List ℕ) (gone i end : ℕ) → IsWatched slots holders ends ready gone i end → end ≤ i → IsWatched slots holders ends ready 0 0 0
@@ -270,6 +258,9 @@ module _ (slots : List (Option WaitingNode)) (holders ends ready : List ℕ) (ke
   named_last : get_or named (length slots) 0 ≡ holder
   named_last = ap (λ n. get_or named n 0) (sym kept.holders_size) ∙ at_last holders holder 0
 
+  pub next_is_new : Has ready (length slots) → ⊥
+  next_is_new h = let o = kept.offered (length slots) h in let lt = in_slot_within slots (length slots) o.node o.at in omega (arith, lt)
+
   more_size : length more ≡ length slots + 1
   more_size = length-append slots (Some node ∷ [])
 
@@ -318,14 +309,14 @@ module _ (slots : List (Option WaitingNode)) (holders ends ready : List ℕ) (ke
         go (inr (inr past)) = past_end named k (let size = kept.holders_size in let longer = length-append holders (holder ∷ []) in omega (arith, past, size, longer))
 
     -- it waits for none
-    pub pushed_ready : length ends' ≡ length slots + 1 → holder ≡ 0 → IsWatched more named ends' (ready ++ length slots ∷ []) 0 0 0
-    pushed_ready size none = record {
+    pub pushed_ready : length ends' ≡ length slots + 1 → holder ≡ 0 → (ready' : List ℕ) → Rises ready' → ((k : ℕ) → Has ready' k ↔ ((k ≡ length slots) ⊎ Has ready k)) → IsWatched more named ends' ready' 0 0 0
+    pushed_ready size none ready' rises holds = record {
       holders_size = length-append holders (holder ∷ []) ∙ ap (λ n. n + 1) kept.holders_size ∙ sym more_size;
       ends_size = size ∙ sym more_size;
       each = λ k later at. each_ready k later at (where_is k).cases;
       empty = empty_more;
-      rises = rises_pushed ready (length slots) kept.rises (λ k h. let o = kept.offered k h in in_slot_within slots k o.node o.at);
-      offered = λ k h. elim ((has_pushed ready (length slots) k).0 h) [
+      rises = rises;
+      offered = λ k h. elim ((holds k).0 h) [
         | inl same ↦ record { node = node; at = ap (in_slot more) same ∙ at_last slots (Some node) None; free = ap (λ j. get_or named j 0) same ∙ named_last ∙ none }
         | inr old ↦ offered_more k (kept.offered k old)
       ];
@@ -348,9 +339,9 @@ module _ (slots : List (Option WaitingNode)) (holders ends ready : List ℕ) (ke
         offered_more : (k : ℕ) → IsOffered slots holders k → IsOffered more named k
         offered_more k o = let lt : k < length slots = in_slot_within slots k o.node o.at in record { node = o.node; at = below_last slots (Some node) None k lt ∙ o.at; free = named_below k lt ∙ o.free }
 
-        all_ready : (k : ℕ) (later : WaitingNode) → in_slot more k ≡ Some later → get_or named k 0 ≡ 0 → (k < length slots) ⊎ ((k ≡ length slots) ⊎ (length slots < k)) → Has (ready ++ length slots ∷ []) k
-        all_ready k later at free_k (inl lt) = (has_pushed ready (length slots) k).1 (inr (kept.all k later (sym (below_last slots (Some node) None k lt) ∙ at) (sym (named_below k lt) ∙ free_k)))
-        all_ready k later at free_k (inr (inl same)) = (has_pushed ready (length slots) k).1 (inl same)
+        all_ready : (k : ℕ) (later : WaitingNode) → in_slot more k ≡ Some later → get_or named k 0 ≡ 0 → (k < length slots) ⊎ ((k ≡ length slots) ⊎ (length slots < k)) → Has ready' k
+        all_ready k later at free_k (inl lt) = (holds k).1 (inr (kept.all k later (sym (below_last slots (Some node) None k lt) ∙ at) (sym (named_below k lt) ∙ free_k)))
+        all_ready k later at free_k (inr (inl same)) = (holds k).1 (inl same)
         all_ready k later at free_k (inr (inr past)) = let no : in_slot more k ≡ None = past_more k past in absurd (cc)
 
     -- it waits for another

@@ -1,3 +1,4 @@
 pub mod Ready
 pub mod Slots
 pub mod Filing
+pub mod Halves

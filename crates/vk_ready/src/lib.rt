@@ -9,6 +9,7 @@ mod laws;
 mod links;
 mod list;
 mod nodes;
+mod ranks;
 mod watch;
 
 pub use edges::has_edge;

@@ -7,7 +7,8 @@ ghost use Rattle.vk_ready.specs.Slots.{waiting_in, in_slot, AreGone};
 
 use crate::WaitingNode;
 use crate::links::{Links, file, last_holder};
-use crate::watch::{Watch, release, watch_next, withdraw};
+use crate::ranks::Ranks;
+use crate::watch::{Watch, release, watch_next};
 use std::alloc::{AllocError, Global};
 use std::marker::Model;
 use std::mem;
@@ -38,11 +39,11 @@ impl Model for WaitingNodes {
     ghost view = { λ w. record {
       nodes = waiting_in w.slots.items;
       room =
-          min (min (min (vec_capacity w.slots) (vec_capacity w.watch.holders)) (min (vec_capacity w.watch.ends) (vec_capacity w.watch.ready)))
+          min (min (min (vec_capacity w.slots) (vec_capacity w.watch.holders)) (min (vec_capacity w.watch.ends) w.watch.ready.room))
           (min (vec_capacity w.watch.starts) (min (vec_capacity w.links.filed) (length w.links.heads.items))) - vec_len w.slots;
     } };
 
-    ghost invariant = { λ w. IsWatched w.slots.items w.watch.holders.items w.watch.ends.items w.watch.ready.items 0 0 0 × AreGone w.slots.items w.first × (w.count ≡ length (waiting_in w.slots.items)) × (vec_len w.slots ≤ vec_capacity w.watch.ready) × (w.first ≤ vec_len w.slots)
+    ghost invariant = { λ w. IsWatched w.slots.items w.watch.holders.items w.watch.ends.items w.watch.ready.slots 0 0 0 × AreGone w.slots.items w.first × (w.count ≡ length (waiting_in w.slots.items)) × (vec_len w.slots ≤ w.watch.ready.room) × (w.first ≤ vec_len w.slots)
         × AreStarts w.watch.holders.items w.watch.starts.items × AreFiled w.slots.items w.links.heads.items w.links.filed.items
         × (vec_len w.slots ≤ vec_len w.links.heads) };
 }
@@ -88,7 +89,7 @@ impl WaitingNodes {
                 holders: Vec::new(alloc),
                 starts: Vec::new(alloc),
                 ends: Vec::new(alloc),
-                ready: Vec::new(alloc),
+                ready: Ranks::new(alloc),
             },
             links: Links {
                 heads: Vec::new(alloc),
@@ -110,7 +111,7 @@ impl WaitingNodes {
                 holders: Vec::with_capacity(alloc, room)?,
                 starts: Vec::with_capacity(alloc, room)?,
                 ends: Vec::with_capacity(alloc, room)?,
-                ready: Vec::with_capacity(alloc, room)?,
+                ready: Ranks::with_room(alloc, room)?,
             },
             links: Links {
                 heads: vec![in alloc; 0; room]?,
@@ -126,7 +127,7 @@ impl WaitingNodes {
         ensures { result ≡ self.now.room }
     {
         let nodes = self.slots.capacity().min(self.watch.holders.capacity());
-        let more = self.watch.ends.capacity().min(self.watch.ready.capacity());
+        let more = self.watch.ends.capacity().min(self.watch.ready.room());
         let links = self.links.filed.capacity().min(self.links.heads.len());
         let others = self.watch.starts.capacity().min(links);
         nodes.min(more).min(others) - self.slots.len()
@@ -194,7 +195,7 @@ impl WaitingNodes {
         ensures ready { (j : ℕ) (x : WaitingNode) → j < ready_place self.old.nodes number → slice_get self.old.nodes j ≡ Some x → edge x result ≡ false }
         ensures room { self.new.room ≡ self.old.room }
     {
-        let slot = withdraw(&mut self.watch.ready, number);
+        let slot = self.watch.ready.withdraw(number);
         let taken = match mem::replace(&mut self.slots[slot], None) {
             Some(node) => node,
             None => unreachable!(),

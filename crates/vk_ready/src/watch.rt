@@ -6,6 +6,7 @@ ghost use Rattle.vk_ready.specs.Slots.{edge_from, in_slot, IsFreeOf, AreGone, Ha
 
 use crate::WaitingNode;
 use crate::links::{Links, last_holder};
+use crate::ranks::Ranks;
 
 /// For each slot the last earlier one whose node has an edge to its node, between which slots those lie that are held by it,
 /// and which slots have none such. A node looks for another one only when that one ran.
@@ -14,38 +15,7 @@ pub(crate) struct Watch {
     pub(crate) holders: Vec<usize>,
     pub(crate) starts: Vec<usize>,
     pub(crate) ends: Vec<usize>,
-    pub(crate) ready: Vec<usize>,
-}
-
-/// Puts a slot among the ready ones.
-pub(crate) fn offer(ready: &mut Vec<usize>, slot: usize)
-    requires room { vec_len ready.old < vec_capacity ready.old }
-    requires rises { Rises ready.old.items }
-    requires other { Has ready.old.items slot → ⊥ }
-    ensures rises { Rises ready.new.items }
-    ensures holds { (k : ℕ) → Has ready.new.items k ↔ ((k ≡ slot) ⊎ Has ready.old.items k) }
-    ensures capacity { vec_capacity ready.new ≡ vec_capacity ready.old }
-{
-    let at = match ready.binary_search(&slot) {
-        Ok(at) => at,
-        Err(at) => at,
-    };
-    match ready.insert(at, slot) {
-        Ok(()) => {}
-        Err(_) => unreachable!(),
-    }
-}
-
-/// Takes the ready slot of this number.
-pub(crate) fn withdraw(ready: &mut Vec<usize>, number: usize) -> usize
-    requires inside { number < length ready.old.items }
-    requires rises { Rises ready.old.items }
-    ensures slot { result ≡ slice_index ready.old.items number }
-    ensures rises { Rises ready.new.items }
-    ensures others { (k : ℕ) → Has ready.new.items k ↔ ((k ≡ result → ⊥) × Has ready.old.items k) }
-    ensures capacity { vec_capacity ready.new ≡ vec_capacity ready.old }
-{
-    ready.remove(number)
+    pub(crate) ready: Ranks,
 }
 
 /// Lets a slot name another, up to which the slots that wait for its node are found.
@@ -85,28 +55,28 @@ pub(crate) fn watch_next(
     requires inside { holder ≤ length slots.now }
     requires free { IsFreeOf slots.now holder (length slots.now) node.now }
     requires waits { (p : ℕ) → holder ≡ suc p → edge_from (in_slot slots.now p) node.now ≡ true }
-    requires kept { IsWatched slots.now watch.old.holders.items watch.old.ends.items watch.old.ready.items 0 0 0 }
+    requires kept { IsWatched slots.now watch.old.holders.items watch.old.ends.items watch.old.ready.slots 0 0 0 }
     requires starts { AreStarts watch.old.holders.items watch.old.starts.items }
     requires holders { length slots.now < vec_capacity watch.old.holders }
     requires starts_capacity { length slots.now < vec_capacity watch.old.starts }
     requires ends { length slots.now < vec_capacity watch.old.ends }
-    requires ready { length slots.now < vec_capacity watch.old.ready }
-    ensures kept { IsWatched (slots.now ++ Some node.now ∷ []) watch.new.holders.items watch.new.ends.items watch.new.ready.items 0 0 0 }
+    requires ready { length slots.now < watch.old.ready.room }
+    ensures kept { IsWatched (slots.now ++ Some node.now ∷ []) watch.new.holders.items watch.new.ends.items watch.new.ready.slots 0 0 0 }
     ensures starts { AreStarts watch.new.holders.items watch.new.starts.items }
     ensures holders { vec_capacity watch.new.holders ≡ vec_capacity watch.old.holders }
     ensures starts_capacity { vec_capacity watch.new.starts ≡ vec_capacity watch.old.starts }
     ensures ends { vec_capacity watch.new.ends ≡ vec_capacity watch.old.ends }
-    ensures ready { vec_capacity watch.new.ready ≡ vec_capacity watch.old.ready }
+    ensures ready { watch.new.ready.room ≡ watch.old.ready.room }
 {
-    let slot = slots.len();
+    let next = slots.len();
     watch.holders.push_reserved(holder);
     watch.starts.push_reserved(usize::MAX);
     watch.ends.push_reserved(0);
     if holder == 0 {
-        watch.ready.push_reserved(slot);
+        watch.ready.offer(next);
     } else {
-        raise(&mut watch.ends, holder - 1, slot);
-        lower(&mut watch.starts, holder - 1, slot);
+        raise(&mut watch.ends, holder - 1, next);
+        lower(&mut watch.starts, holder - 1, next);
     }
 }
 
@@ -125,15 +95,15 @@ fn settle(
     requires empty { in_slot slots.now gone ≡ None }
     requires after { gone < slot }
     requires inside { slot < length slots.now }
-    requires kept { IsWatched slots.now watch.old.holders.items watch.old.ends.items watch.old.ready.items gone slot end }
+    requires kept { IsWatched slots.now watch.old.holders.items watch.old.ends.items watch.old.ready.slots gone slot end }
     requires starts { AreStarts watch.old.holders.items watch.old.starts.items }
-    requires room { length slots.now ≤ vec_capacity watch.old.ready }
-    ensures kept { IsWatched slots.now watch.new.holders.items watch.new.ends.items watch.new.ready.items gone (slot + 1) end }
+    requires room { length slots.now ≤ watch.old.ready.room }
+    ensures kept { IsWatched slots.now watch.new.holders.items watch.new.ends.items watch.new.ready.slots gone (slot + 1) end }
     ensures starts { AreStarts watch.new.holders.items watch.new.starts.items }
     ensures holders { vec_capacity watch.new.holders ≡ vec_capacity watch.old.holders }
     ensures starts_capacity { vec_capacity watch.new.starts ≡ vec_capacity watch.old.starts }
     ensures ends { vec_capacity watch.new.ends ≡ vec_capacity watch.old.ends }
-    ensures ready { vec_capacity watch.new.ready ≡ vec_capacity watch.old.ready }
+    ensures ready { watch.new.ready.room ≡ watch.old.ready.room }
 {
     if watch.holders[slot] != gone + 1 {
         return;
@@ -144,7 +114,7 @@ fn settle(
     };
     watch.holders[slot] = holder;
     if holder == 0 {
-        offer(&mut watch.ready, slot);
+        watch.ready.offer(slot);
     } else {
         raise(&mut watch.ends, holder - 1, slot);
         lower(&mut watch.starts, holder - 1, slot);
@@ -165,15 +135,15 @@ pub(crate) fn release(
     requires empty { in_slot slots.now gone ≡ None }
     requires inside { end ≤ length slots.now }
     requires few { gone < length slots.now }
-    requires kept { IsWatched slots.now watch.old.holders.items watch.old.ends.items watch.old.ready.items gone (gone + 1) end }
+    requires kept { IsWatched slots.now watch.old.holders.items watch.old.ends.items watch.old.ready.slots gone (gone + 1) end }
     requires starts { AreStarts watch.old.holders.items watch.old.starts.items }
-    requires room { length slots.now ≤ vec_capacity watch.old.ready }
-    ensures kept { IsWatched slots.now watch.new.holders.items watch.new.ends.items watch.new.ready.items 0 0 0 }
+    requires room { length slots.now ≤ watch.old.ready.room }
+    ensures kept { IsWatched slots.now watch.new.holders.items watch.new.ends.items watch.new.ready.slots 0 0 0 }
     ensures starts { AreStarts watch.new.holders.items watch.new.starts.items }
     ensures holders { vec_capacity watch.new.holders ≡ vec_capacity watch.old.holders }
     ensures starts_capacity { vec_capacity watch.new.starts ≡ vec_capacity watch.old.starts }
     ensures ends { vec_capacity watch.new.ends ≡ vec_capacity watch.old.ends }
-    ensures ready { vec_capacity watch.new.ready ≡ vec_capacity watch.old.ready }
+    ensures ready { watch.new.ready.room ≡ watch.old.ready.room }
 {
     let start = watch.starts[gone].max(gone + 1);
     for slot in start..end {

@@ -1,9 +1,9 @@
-use Rattle.std.proofs.Common.{◌≡◌, ℕ, suc, ◌+◌, ◌-◌, ◌<◌, ◌≤◌, length, false, true, sym, ◌∙◌, ap, subst, arith, inl, inr}
+use Rattle.std.proofs.Common.{◌≡◌, ℕ, suc, ◌-◌, ◌<◌, length, sym, ◌∙◌, ap, subst, arith, inl, inr}
 use Rattle.std.specs.Prelude.{None}
 use Rattle.std.proofs.lemmas.Bool.{cases_eq, cases_lt}
 use Rattle.std.proofs.lemmas.List.{get_or_default}
 use Rattle.vk_ready.specs.Slots.{in_slot, edge_from}
-use Rattle.vk_ready.specs.Filing.{nowhere, filed_at, IsIn, IsLast, before_in}
+use Rattle.vk_ready.specs.Filing.{filed_at, IsLast, before_in}
 use Rattle.vk_ready.proofs.links.last_in_bucket.Goals as goal
 use Rattle.vk_ready.proofs.links.last_in_bucket.Goals.{else-slot-end-via-then-slot-end+else-slot_has_edge, else-slot-end-via-else-slot-end}
 

@@ -1,21 +1,22 @@
-use Rattle.std.proofs.Common.{◌≡◌, suc, ◌+◌, ◌-◌, ◌<◌, ◌≤◌, ◌++◌, [], ◌∷◌, length, get_or, refl, sym, ◌∙◌, ap, subst, arith, length-append}
+use Rattle.std.proofs.Common.{◌≡◌, suc, ◌+◌, ◌-◌, ◌≤◌, ◌++◌, [], ◌∷◌, length, get_or, sym, ◌∙◌, ap, subst, arith, length-append}
 use Rattle.vk_ready.specs.Slots.{AreStarts}
-use Rattle.vk_ready.proofs.Watching.{few_ready, pushed_ready, pushed_behind, no_less, starts_pushed}
+use Rattle.vk_ready.proofs.Watching.{next_is_new, pushed_ready, pushed_behind, no_less, starts_pushed}
 use Rattle.vk_ready.proofs.watch.watch_next.Goals as goal
 
-pub push_reserved-requires-then-holder-eq0 : goal.push_reserved-requires-then-holder-eq0
-push_reserved-requires-then-holder-eq0 c =
-    let few = few_ready c.args.slots.now c.args.watch.now.holders.items c.args.watch.now.ends.items c.args.watch.now.ready.items 0 0 0 c.requires.kept in
-    omega (arith, few)
+pub offer-requires-clause-other : goal.offer-requires-clause-other
+offer-requires-clause-other c =
+    let w = c.args.watch.now in
+    next_is_new c.args.slots.now w.holders.items w.ends.items w.ready.slots c.requires.kept c.args.node.now c.args.holder c.requires.inside c.requires.free
 
 pub returns-then-holder-eq0-clause-kept : goal.returns-then-holder-eq0-clause-kept
 returns-then-holder-eq0-clause-kept c =
     let w = c.args.watch.now in
     let size = c.requires.kept.ends_size in
     let longer = length-append w.ends.items (0 ∷ []) in
-    rw (c.push_reserved.ensures.items, c.push_reserved-3.ensures.items, c.push_reserved-then-holder-eq0.ensures.items)
-    (pushed_ready c.args.slots.now w.holders.items w.ends.items w.ready.items c.requires.kept c.args.node.now c.args.holder c.requires.inside c.requires.free
-    (w.ends.items ++ 0 ∷ []) (no_less w.ends.items) (omega (arith, size, longer)) c.if-holder-eq0.true)
+    rw (c.push_reserved.ensures.items, c.push_reserved-3.ensures.items)
+    (pushed_ready c.args.slots.now w.holders.items w.ends.items w.ready.slots c.requires.kept c.args.node.now c.args.holder c.requires.inside c.requires.free
+    (w.ends.items ++ 0 ∷ []) (no_less w.ends.items) (omega (arith, size, longer)) c.if-holder-eq0.true
+    c.offer.new.self.slots c.offer.ensures.rises c.offer.ensures.holds)
 
 pub returns-else-holder-eq0-clause-kept : goal.returns-else-holder-eq0-clause-kept
 returns-else-holder-eq0-clause-kept c =
@@ -27,7 +28,7 @@ returns-else-holder-eq0-clause-kept c =
     let all : length c.raise.new.ends.items ≡ length c.args.slots.now + 1 = raised ∙ ap length ends_is ∙ longer ∙ ap (λ n. n + 1) size in
     let is : c.args.holder ≡ suc (c.args.holder - 1) = let ne = c.if-holder-eq0.false in omega (arith, ne) in
     rw (c.push_reserved.ensures.items)
-    (pushed_behind c.args.slots.now w.holders.items w.ends.items w.ready.items c.requires.kept c.args.node.now c.args.holder c.requires.inside c.requires.free
+    (pushed_behind c.args.slots.now w.holders.items w.ends.items w.ready.slots c.requires.kept c.args.node.now c.args.holder c.requires.inside c.requires.free
     c.raise.new.ends.items (λ p. let less = no_less w.ends.items p in let risen = c.raise.ensures.risen p in let at : get_or c.push_reserved-3.new.self.items p 0 ≡ get_or (w.ends.items ++ 0 ∷ []) p 0 = ap (λ l. get_or l p 0) ends_is in omega (arith, less, risen, at))
     all (c.args.holder - 1) is (c.requires.waits (c.args.holder - 1) is) c.raise.ensures.seen)
 

@@ -1,4 +1,4 @@
-use Rattle.std.proofs.Common.{◌≡◌, ◌+◌, ◌≤◌, ◌++◌, [], ◌∷◌, length, sym, ◌∙◌, ap, subst, arith, length-append}
+use Rattle.std.proofs.Common.{◌≡◌, ◌++◌, [], ◌∷◌, length, sym, ◌∙◌, ap, subst, arith, length-append}
 use Rattle.std.specs.Prelude.{Some, None}
 use Rattle.std.proofs.lemmas.List.{get_or_append_left}
 use Rattle.vk_ready.specs.Ready.{NodesAndRoom}
@@ -23,7 +23,7 @@ invariant_of-self c =
     let longer = length-append (waiting_in w.slots.items) (c.args.node ∷ []) in
     let count = c.self.invariant.2 in
     rw (c.push_reserved.ensures.items) (
-      subst (λ l. IsWatched (l ++ Some c.args.node ∷ []) n.holders.items n.ends.items n.ready.items 0 0 0) c.as_slice-slots.ensures.value c.watch_next.ensures.kept,
+      subst (λ l. IsWatched (l ++ Some c.args.node ∷ []) n.holders.items n.ends.items n.ready.slots 0 0 0) c.as_slice-slots.ensures.value c.watch_next.ensures.kept,
       gone_pushed w.slots.items (Some c.args.node) w.first c.self.invariant.1 (omega arith),
       omega (arith, count, longer, ap length more),
       (let room = ap (λ (v : NodesAndRoom). v.room) c.self.view_is in let kept = c.watch_next.ensures.ready in omega (arith, room, kept, c.requires)),

@@ -7,13 +7,13 @@ use Rattle.vk_ready.proofs.list.WaitingNodes.ready.Goals as goal
 pub returns-clause-count : goal.returns-clause-count
 returns-clause-count c =
     let w = c.self.inside in
-    let len : c.len.result ≡ length w.watch.ready.items = omega arith in
-    len ∙ ready_total w.slots.items w.watch.holders.items w.watch.ends.items w.watch.ready.items c.self.invariant.0 ∙ ap (λ (v : NodesAndRoom). length (ready_places v.nodes)) c.self.view_is
+    let len : c.len.result ≡ length w.watch.ready.slots = omega arith in
+    len ∙ ready_total w.slots.items w.watch.holders.items w.watch.ends.items w.watch.ready.slots c.self.invariant.0 ∙ ap (λ (v : NodesAndRoom). length (ready_places v.nodes)) c.self.view_is
 
 pub returns-clause-some : goal.returns-clause-some
 returns-clause-some c =
     let w = c.self.inside in
-    let len : c.len.result ≡ length w.watch.ready.items = omega arith in
+    let len : c.len.result ≡ length w.watch.ready.slots = omega arith in
     let both = some_ready c.args.self.now.nodes in
-    let count : c.len.result ≡ length (ready_places c.args.self.now.nodes) = len ∙ ready_total w.slots.items w.watch.holders.items w.watch.ends.items w.watch.ready.items c.self.invariant.0 ∙ ap (λ (v : NodesAndRoom). length (ready_places v.nodes)) c.self.view_is in
+    let count : c.len.result ≡ length (ready_places c.args.self.now.nodes) = len ∙ ready_total w.slots.items w.watch.holders.items w.watch.ends.items w.watch.ready.slots c.self.invariant.0 ∙ ap (λ (v : NodesAndRoom). length (ready_places v.nodes)) c.self.view_is in
     (λ lt. both.0 (subst (λ n. 0 < n) count lt), λ lt. subst (λ n. 0 < n) (sym count) (both.1 lt))
