@@ -7,7 +7,7 @@ use Rattle.vk_ready.specs.declared.nodes.WaitingNode.{WaitingNode}
 use Rattle.vk_ready.specs.Slots.{in_slot, edge_from, IsFreeOf, AreGone, Has, Rises, AreStarts, IsHeld, IsOffered, IsWatched}
 
 -- nothing stands past the last slot
-in_slot_past : (slots : List (Option WaitingNode)) (k : ℕ) → length slots ≤ k → in_slot slots k ≡ None
+pub in_slot_past : (slots : List (Option WaitingNode)) (k : ℕ) → length slots ≤ k → in_slot slots k ≡ None
 in_slot_past [] k le = refl
 in_slot_past (s ∷ slots) zero le = absurd (omega arith)
 in_slot_past (s ∷ slots) (suc k) le = in_slot_past slots k (omega arith)
@@ -378,21 +378,6 @@ module _ (slots : List (Option WaitingNode)) (holders ends ready : List ℕ) (ke
         all_behind k later at free_k (inr (inr past)) = let no : in_slot more k ≡ None = past_more k past in absurd (cc)
 
 -- Where the slots that are held by another begin
-
--- nothing is held
-pub starts_nothing : AreStarts [] []
-starts_nothing = record { size = refl; low = λ k p e. absurd (omega (arith, e)) }
-
-pub watched_nothing : IsWatched [] [] [] [] 0 0 0
-watched_nothing = record {
-  holders_size = refl;
-  ends_size = refl;
-  each = λ k later at. let never : ◌≡◌ {A = Option WaitingNode} None (Some later) = at in absurd (cc);
-  empty = λ k none. refl;
-  rises = tt;
-  offered = λ k h. absurd h;
-  all = λ k later at free. let never : ◌≡◌ {A = Option WaitingNode} None (Some later) = at in absurd (cc);
-}
 
 -- a slot gets another holder
 pub starts_moved : (holders starts starts' : List ℕ) (i holder : ℕ) → AreStarts holders starts → i < length holders → length starts' ≡ length starts → ((p : ℕ) → get_or starts' p 0 ≤ get_or starts p 0)

@@ -16,10 +16,15 @@ count_below (n ∷ ns) bound = if nat_lt n bound then suc (count_below ns bound)
 abbrev pub middle : (low high : ℕ) → ℕ
 middle low high = low + (high - low) / 2
 
+-- the number at the middle of a part
+abbrev pub first_half : (halves : List ℕ) (low high : ℕ) → ℕ
+first_half halves low high = slice_index halves (middle low high)
+
 -- The number at the middle of a part is how many slots lie in its first half; and so in both halves, if they are halved so often.
 abbrev pub AreHalved : (halves slots : List ℕ) (often low high : ℕ) → Type 0
 AreHalved halves slots zero low high = Unit {0}
-AreHalved halves slots (suc often) low high = 1 < high - low → (count_below slots low + slice_index halves (middle low high) ≡ count_below slots (middle low high))
+AreHalved halves slots (suc often) low high = 1 < high - low
+    → (count_below slots low + first_half halves low high ≡ count_below slots (middle low high))
     × AreHalved halves slots often low (middle low high) × AreHalved halves slots often (middle low high) high
 
 -- the same however often they are halved
@@ -30,7 +35,8 @@ AreCounted halves slots low high = (often : ℕ) → AreHalved halves slots ofte
 abbrev pub slots_within : (halves : List ℕ) (often low high count : ℕ) → List ℕ
 slots_within halves zero low high count = []
 slots_within halves (suc often) low high count = if nat_lt 1 (high - low)
-    then slots_within halves often low (middle low high) (slice_index halves (middle low high)) ++ slots_within halves often (middle low high) high (count - slice_index halves (middle low high))
+    then slots_within halves often low (middle low high) (first_half halves low high)
+    ++ slots_within halves often (middle low high) high (count - first_half halves low high)
     else (if count == 0 then [] else low ∷ [])
 
 -- all slots, of which there are so many

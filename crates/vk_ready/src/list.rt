@@ -16,7 +16,7 @@ use std::mem;
 /// Nodes that were accepted and have not run, in the order of acceptance. Contracts see the list of them and the room,
 /// which is how many more can be pushed without memory. Each node stands in a slot, which is empty once it ran. A node that
 /// is not ready names the last earlier one with an edge to it, and is looked at again only when that one ran. Such a one is
-/// looked for among the nodes that touch the same objects.
+/// looked for among the nodes that touch the same objects, and for a node that is no barrier among their barriers alone.
 #[derive(Debug, Drop)]
 pub struct WaitingNodes {
     alloc: Global,
@@ -44,7 +44,7 @@ impl Model for WaitingNodes {
     } };
 
     ghost invariant = { λ w. IsWatched w.slots.items w.watch.holders.items w.watch.ends.items w.watch.ready.slots 0 0 0 × AreGone w.slots.items w.first × (w.count ≡ length (waiting_in w.slots.items)) × (vec_len w.slots ≤ w.watch.ready.room) × (w.first ≤ vec_len w.slots)
-        × AreStarts w.watch.holders.items w.watch.starts.items × AreFiled w.slots.items w.links.heads.items w.links.filed.items
+        × AreStarts w.watch.holders.items w.watch.starts.items × AreFiled w.slots.items w.links.heads.items w.links.barriers.items w.links.filed.items
         × (vec_len w.slots ≤ vec_len w.links.heads) };
 }
 
@@ -93,6 +93,7 @@ impl WaitingNodes {
             },
             links: Links {
                 heads: Vec::new(alloc),
+                barriers: Vec::new(alloc),
                 filed: Vec::new(alloc),
             },
             first: 0,
@@ -115,6 +116,7 @@ impl WaitingNodes {
             },
             links: Links {
                 heads: vec![in alloc; 0; room]?,
+                barriers: vec![in alloc; 0; room]?,
                 filed: Vec::with_capacity(alloc, room)?,
             },
             first: 0,

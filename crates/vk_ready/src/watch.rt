@@ -90,7 +90,7 @@ fn settle(
     slot: usize,
     end: usize,
 )
-    requires filed { AreFiled slots.now links.now.heads.items links.now.filed.items }
+    requires filed { AreFiled slots.now links.now.heads.items links.now.barriers.items links.now.filed.items }
     requires gone { AreGone slots.now first }
     requires empty { in_slot slots.now gone ≡ None }
     requires after { gone < slot }
@@ -130,7 +130,7 @@ pub(crate) fn release(
     gone: usize,
     end: usize,
 )
-    requires filed { AreFiled slots.now links.now.heads.items links.now.filed.items }
+    requires filed { AreFiled slots.now links.now.heads.items links.now.barriers.items links.now.filed.items }
     requires gone { AreGone slots.now first }
     requires empty { in_slot slots.now gone ≡ None }
     requires inside { end ≤ length slots.now }

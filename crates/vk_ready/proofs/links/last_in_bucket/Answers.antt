@@ -3,7 +3,8 @@ use Rattle.std.specs.Prelude.{None}
 use Rattle.std.proofs.lemmas.Bool.{cases_eq, cases_lt}
 use Rattle.std.proofs.lemmas.List.{get_or_default}
 use Rattle.vk_ready.specs.Slots.{in_slot, edge_from}
-use Rattle.vk_ready.specs.Filing.{filed_at, IsLast, before_in}
+use Rattle.vk_ready.specs.Filing.{filed_at, IsLast, link_in}
+use Rattle.vk_ready.proofs.Buckets.{passed_free}
 use Rattle.vk_ready.proofs.links.last_in_bucket.Goals as goal
 use Rattle.vk_ready.proofs.links.last_in_bucket.Goals.{else-slot-end-via-then-slot-end+else-slot_has_edge, else-slot-end-via-else-slot-end}
 
@@ -26,12 +27,12 @@ loop-at-preserved c =
     let next : c.loop-at.at ≡ suc slot = omega (arith, more) in
     let fits = i.fits in
     let within : slot < length filed = omega (arith, next, fits) in
-    let link_is : c.link_in-at.result ≡ before_in (filed_at filed slot) bucket = c.link_in-at.ensures in
-    let last : IsLast filed bucket slot c.link_in-at.result = subst (IsLast filed bucket slot) (sym link_is) (c.requires.linked slot bucket within (i.has slot next)) in record {
+    let link_is : c.link_of-at.result ≡ link_in c.args.only_barriers (filed_at filed slot) bucket = c.link_of-at.ensures in
+    let last : IsLast c.args.only_barriers c.args.slots.now filed bucket slot c.link_of-at.result = subst (IsLast c.args.only_barriers c.args.slots.now filed bucket slot) (sym link_is) (c.requires.linked slot bucket within (i.has slot next)) in record {
       fits = let below = last.inside in omega (arith, below, within);
       has = last.has;
       free = λ k le lt h. elim (cases_lt k slot) [
-        | inl below ↦ absurd (last.none k le below h)
+        | inl below ↦ passed_free c.args.only_barriers (in_slot c.args.slots.now k) c.args.later.now c.requires.plain (last.none k le below h)
         | inr past ↦ elim (cases_eq k slot) [
           | inl same ↦ elim c.else-slot-end.branch [
             | else-slot-end-via-then-slot-end+else-slot_has_edge w ↦
@@ -50,3 +51,10 @@ returns-clause-free c = λ k le lt h. elim (cases_lt k c.args.first) [
   | inl below ↦ ap (λ s. edge_from s c.args.later.now) (c.requires.gone k below)
   | inr above ↦ let done = c.loop-at-test.false in c.loop-at.invariant.free k (omega (arith, done, above)) lt h
 ]
+
+pub loop-at-init : goal.loop-at-init
+loop-at-init c = record {
+  fits = c.requires.link_fits;
+  has = c.requires.has;
+  free = λ k from to h. passed_free c.args.only_barriers (in_slot c.args.slots.now k) c.args.later.now c.requires.plain (c.requires.none k from to h);
+}

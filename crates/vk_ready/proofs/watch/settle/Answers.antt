@@ -3,6 +3,7 @@ use Rattle.std.specs.Prelude.{Some, None}
 use Rattle.std.proofs.lemmas.List.{get_or_default}
 use Rattle.vk_ready.specs.Slots.{in_slot}
 use Rattle.vk_ready.proofs.Watching.{watched_other, watched_ready, watched_behind, starts_moved}
+use Rattle.vk_ready.proofs.Buckets.{both_linked}
 use Rattle.vk_ready.proofs.watch.settle.Goals as goal
 
 pub returns-then-index-gone-clause-kept : goal.returns-then-index-gone-clause-kept
@@ -60,3 +61,8 @@ pub last_holder-holder-requires-clause-filed : goal.last_holder-holder-requires-
 last_holder-holder-requires-clause-filed c =
     let at : in_slot c.args.slots.now c.args.slot ≡ Some c.in-Some.later = sym (c.index-slots-slot.is ∙ get_or_default c.args.slots.now c.args.slot c.index-slots-slot.result None c.requires.inside) ∙ c.in-Some.is in
     c.requires.filed.all c.args.slot c.in-Some.later at
+
+pub last_holder-holder-requires-clause-linked : goal.last_holder-holder-requires-clause-linked
+last_holder-holder-requires-clause-linked c =
+    let links = c.args.links.now in
+    both_linked c.args.slots.now links.heads.items links.barriers.items links.filed.items c.requires.filed

@@ -3,9 +3,9 @@ use Rattle.std.specs.Prelude.{Some, None}
 use Rattle.std.proofs.lemmas.List.{get_or_append_left}
 use Rattle.vk_ready.specs.Ready.{NodesAndRoom}
 use Rattle.vk_ready.specs.Slots.{waiting_in, IsWatched}
-use Rattle.vk_ready.specs.Filing.{IsFiled, AreAllFiled}
+use Rattle.vk_ready.specs.Filing.{AreLinked, IsFiled, AreAllFiled}
 use Rattle.vk_ready.proofs.Watching.{gone_pushed, in_slot_within}
-use Rattle.vk_ready.proofs.Buckets.{at_end}
+use Rattle.vk_ready.proofs.Buckets.{at_end, linked_before, both_linked}
 use Rattle.vk_ready.proofs.Order.{pushed, few_waiting}
 use Rattle.vk_ready.proofs.list.WaitingNodes.push.Goals as goal
 
@@ -52,7 +52,14 @@ last_holder-holder-requires-clause-slot_fits c =
     let size = c.self.invariant.6.size in let more = c.file.ensures.size in omega (arith, size, more)
 
 pub last_holder-holder-requires-clause-linked : goal.last_holder-holder-requires-clause-linked
-last_holder-holder-requires-clause-linked c = (c.file.ensures.filed c.self.inside.slots.items c.self.invariant.6).linked
+last_holder-holder-requires-clause-linked c = λ b.
+    let slots = c.self.inside.slots.items in let n = c.file.new.links in
+    let filed = c.file.ensures.filed slots c.self.invariant.6 in
+    subst (λ l. AreLinked b l n.filed.items) (sym c.as_slice-slots.ensures.value)
+    (linked_before b slots (Some c.args.node) n.filed.items (both_linked (slots ++ Some c.args.node ∷ []) n.heads.items n.barriers.items n.filed.items filed b))
+
+pub file-requires-clause-barriers : goal.file-requires-clause-barriers
+file-requires-clause-barriers c = c.self.invariant.6.heads_size
 
 pub last_holder-holder-requires-clause-all : goal.last_holder-holder-requires-clause-all
 last_holder-holder-requires-clause-all c =

@@ -64,7 +64,7 @@ pub release-requires-clause-filed : goal.release-requires-clause-filed
 release-requires-clause-filed c =
     let w = c.self.inside in
     let after : set w.slots.items c.withdraw-slot.result c.replace.new.dest ≡ set w.slots.items c.withdraw-slot.result None = ap (set w.slots.items c.withdraw-slot.result) c.replace.ensures.after in
-    subst (λ l. AreFiled l w.links.heads.items w.links.filed.items) (sym (c.as_slice-2.ensures.value ∙ after)) (filed_emptied w.slots.items w.links.heads.items w.links.filed.items c.withdraw-slot.result c.self.invariant.6)
+    subst (λ l. AreFiled l w.links.heads.items w.links.barriers.items w.links.filed.items) (sym (c.as_slice-2.ensures.value ∙ after)) (filed_emptied w.slots.items w.links.heads.items w.links.barriers.items w.links.filed.items c.withdraw-slot.result c.self.invariant.6)
 
 pub release-requires-clause-gone : goal.release-requires-clause-gone
 release-requires-clause-gone c =
@@ -114,7 +114,7 @@ invariant_of-self c =
       omega arith,
       omega arith,
       c.release.ensures.starts,
-      subst (λ l. AreFiled l w.links.heads.items w.links.filed.items) (sym after) (filed_emptied w.slots.items w.links.heads.items w.links.filed.items c.withdraw-slot.result c.self.invariant.6),
+      subst (λ l. AreFiled l w.links.heads.items w.links.barriers.items w.links.filed.items) (sym after) (filed_emptied w.slots.items w.links.heads.items w.links.barriers.items w.links.filed.items c.withdraw-slot.result c.self.invariant.6),
       (let few = c.self.invariant.7 in omega (arith, few)),
     )
 
