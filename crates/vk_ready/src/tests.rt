@@ -90,3 +90,41 @@ fn a_node_comes_out_as_it_went_in(rt: HostRuntime) -> Result<(), Fail> {
     assert_eq!(rt; waiting.len(), 0);
     Ok(())
 }
+
+/// A barrier of buffer 0, and so many copies from there, each to a buffer of its own.
+fn readers(alloc: Global, count: u64) -> Result<WaitingNodes, AllocError> {
+    let mut waiting = WaitingNodes::new(alloc);
+    let (read, write) = (Access::TRANSFER_READ, Access::TRANSFER_WRITE);
+    accept(&mut waiting, 0, barrier(0, write, read))?;
+    for k in 0..count {
+        accept(&mut waiting, 0, copy(0, k.saturating_add(1)))?;
+    }
+    Ok(waiting)
+}
+
+/// Takes the middle one of the ready nodes so often, and gives the buffer that the last one writes.
+fn take_middles(waiting: &mut WaitingNodes, count: usize) -> u64 {
+    let mut last = 0;
+    for _ in 0..count {
+        let ready = waiting.ready();
+        if ready > 0 {
+            let taken = waiting.take(ready / 2);
+            last = taken.command.touch(taken.command.touch_count() - 1).id.0;
+        }
+    }
+    last
+}
+
+/// Many nodes wait for one barrier, and are ready at once behind it.
+#[test]
+fn many_nodes_are_ready_behind_a_barrier(rt: HostRuntime) -> Result<(), Fail> {
+    let mut waiting = readers(rt.alloc(), 20_000)?;
+    assert_eq!(rt; waiting.ready(), 1);
+    let _ = waiting.take(0);
+    assert_eq!(rt; waiting.ready(), 20_000);
+    assert_eq!(rt; take_middles(&mut waiting, 1), 10_001);
+    assert_eq!(rt; take_middles(&mut waiting, 1), 10_000);
+    assert_eq!(rt; take_middles(&mut waiting, 9_998), 5_001);
+    assert_eq!(rt; waiting.ready(), 10_000);
+    Ok(())
+}
