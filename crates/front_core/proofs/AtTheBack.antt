@@ -1,10 +1,13 @@
 -- What a call does at the back, from what the moves that it is made of do there.
-use Rattle.std.proofs.Common.{arith, ◌≡◌, ℕ, ◌≤◌, Bool, true, false, Option, Some, None, List, [], ◌∷◌, refl, sym, ◌∙◌, ap, subst, inl, inr}
+use Rattle.std.proofs.Common.{arith, ◌≡◌, ◌≢◌, ℕ, ◌+◌, ◌<◌, ◌≤◌, Bool, true, false, Option, Some, None, List, [], ◌∷◌, length, refl, sym, ◌∙◌, ap, subst, inl, inr}
 use Rattle.std.specs.Prelude.{◌⊎◌, Contains, Result, IfOk}
 use Rattle.std.specs.Option.{option_map_or}
 use Rattle.std.proofs.lemmas.Bool.{false≢true}
 use Rattle.vk_types.specs.declared.batches.Batch.{Batch}
+use Rattle.vk_types.specs.declared.batches.QueueSerial.{QueueSerial}
+use Rattle.vk_types.specs.declared.batches.Reason.{Reason}
 use Rattle.vk_types.specs.declared.batches.Reason.TheVariants as reason
+use Rattle.vk_types.specs.declared.ops.Node.{Node}
 use Rattle.vk_types.specs.declared.stops.Stop.{Stop}
 use Rattle.vk_model.proofs.Places.{contains_none, contains_cons_cases}
 use Rattle.gl_calls.specs.declared.call.Call.{Call}
@@ -18,15 +21,17 @@ use Rattle.gl_model.specs.Bindings.{current_context, buffer_binding}
 use Rattle.gl_model.specs.Refusal.{refusal}
 use Rattle.back_core.specs.declared.back_event.BackEvent.{BackEvent}
 use Rattle.back_core.specs.Link.{Link}
+use Rattle.back_core.specs.Own.{batch_touches}
 use Rattle.back_core.specs.Frame.{AtBack}
 use Rattle.back_core.proofs.Frames.{none_done, within, no_batch}
-use Rattle.front_model.specs.Face.{Face}
+use Rattle.front_model.specs.Face.{Face, nodes_touch}
 use Rattle.front_moves.specs.Reasons as moves
-use Rattle.front_moves.specs.Reasons.{IsFlushOf, IsParting, IsSettling}
-use Rattle.sync_serials.specs.Serials.{SyncTables}
-use Rattle.front_core.specs.Share.{IsCarriedOut, current_index, replaced_index}
+use Rattle.front_moves.specs.Reasons.{IsFlushOf, IsFull, IsParting, IsSettling, IsEnding}
+use Rattle.sync_serials.specs.Serials.{SyncTables, newest_of}
+use Rattle.front_core.specs.Answering.{changes_contexts}
+use Rattle.front_core.specs.Share.{IsCarriedOut, current_index, replaced_index, replaced_by}
 use Rattle.front_core.specs.Economy as economy
-use Rattle.front_core.specs.Economy.{upload_due, due_of, may_wait, waits_of, used_targets, IsUsedBy, maps_a_buffer, IsSwitch, IsTrueReason, IsSyncReason, HasTrueReason, MayHandOver}
+use Rattle.front_core.specs.Economy.{upload_due, due_of, may_wait, waits_of, used_targets, IsNeeded, IsNeededAnd, IsUsedBy, maps_a_buffer, IsSwitch, IsTrueReason, IsForSync, IsSyncReason, HasTrueReason, MayHandOver, IsEndingBatch}
 
 never : {A : Type 0} → false ≡ true → A
 never wrong = absurd (false≢true wrong)
@@ -92,8 +97,8 @@ pub settling_is_true : (f : Face) (group : GroupState) (serials : Entries ℕ) (
     IsUsedBy group thread asked b → maps_a_buffer asked ≡ true → (batch : Batch) → IsSettling f index b batch → IsTrueReason f group serials thread asked batch
 settling_is_true f group serials thread asked index b current used maps batch (moves.parting is) =
     parting_is_true f group serials thread asked index (b ∷ []) current (each_of_one (IsUsedBy group thread asked) b used) batch is
-settling_is_true f group serials thread asked index b current used maps batch (moves.reading of_index for_reason) =
-    economy.read maps (current ∙ ap Some (sym of_index)) for_reason
+settling_is_true f group serials thread asked index b current used maps batch (moves.reading of_index for_reason some) =
+    economy.read maps (current ∙ ap Some (sym of_index)) for_reason some
 
 -- the buffer that is bound to the first or the second target that a call uses
 pub used_first : (group : GroupState) (thread : ℕ) (asked : Call) (context : Context) (target : BufferTarget) (rest : List BufferTarget) (b : ℕ) → used_targets asked ≡ target ∷ rest →
@@ -116,6 +121,72 @@ used_second group thread asked context first target rest b uses current bound = 
   bound = bound;
 }
 
+-- Need
+
+-- what is needed for a reason is needed for another that follows
+pub needed_map : (tables : SyncTables) {First MayHand : Batch → Type 0} → ((batch : Batch) → First batch → MayHand batch) → (batch : Batch) → IsNeededAnd tables First batch → IsNeededAnd tables MayHand batch
+needed_map tables {First} {MayHand} hand batch is = record { is = hand batch is.is; needed = is.needed }
+
+-- what has nodes is needed
+pub needed_with_nodes : (tables : SyncTables) (batch : Batch) → batch.nodes ≢ [] → IsNeeded tables batch
+needed_with_nodes tables batch some none = absurd (some none)
+
+-- where something is pending anything holds if nothing is
+pub none_pending : {A : Type 0} (nodes : List Node) → 0 < length nodes → nodes ≡ [] → A
+none_pending nodes more none = let nothing : length nodes ≡ 0 = ap length none in let bad : ⊥ = omega (arith, nothing, more) in absurd bad
+
+-- what is flushed where something is pending, or a sync has no batch
+pub flush_is_needed : (f : Face) (tables : SyncTables) (index : ℕ) (why : Reason) → (f.pending index ≡ [] → f.last index < newest_of tables index) → (batch : Batch) → IsFlushOf f index why batch →
+    IsNeededAnd tables (IsFlushOf f index why) batch
+flush_is_needed f tables index why waits batch flush = record {
+  is = flush;
+  needed = λ none.
+      let low : f.last index + 1 ≤ newest_of tables index = let above = waits (sym flush.all ∙ none) in omega (arith, above) in
+      subst (λ i. batch.number ≤ newest_of tables i) (sym flush.of_index) (subst (λ n. n ≤ newest_of tables index) (sym flush.number) low);
+}
+
+-- what is handed over for a sync that has no batch is its batch
+pub flush_for_sync : (f : Face) (serial : QueueSerial) → f.last serial.index < serial.number → serial.number ≤ f.last serial.index + 1 → (batch : Batch) → IsFlushOf f serial.index reason.Sync batch → IsForSync serial batch
+flush_for_sync f serial above most batch flush = record {
+  of_index = flush.of_index;
+  number = let next_ = flush.number in omega (arith, next_, above, most);
+  for_reason = flush.for_reason;
+}
+
+-- the batch of a sync is needed
+pub needed_for_sync : (tables : SyncTables) (serial : QueueSerial) {MayHand : Batch → Type 0} → serial.number ≤ newest_of tables serial.index → ((batch : Batch) → IsForSync serial batch → MayHand batch) → (batch : Batch) →
+    IsForSync serial batch → IsNeededAnd tables MayHand batch
+needed_for_sync tables serial {MayHand} low hand batch is = record {
+  is = hand batch is;
+  needed = λ none. subst (λ i. batch.number ≤ newest_of tables i) (sym is.of_index) (subst (λ n. n ≤ newest_of tables serial.index) (sym is.number) low);
+}
+
+-- a batch that touches something has nodes, and so has a full one
+touching_has_nodes : (batch : Batch) (id : ℕ) → batch_touches batch id ≡ true → batch.nodes ≢ []
+touching_has_nodes batch id touched none = false≢true (sym (ap (λ nodes. nodes_touch nodes id) none) ∙ touched)
+
+full_has_nodes : (batch : Batch) → IsFull batch → batch.nodes ≢ []
+full_has_nodes batch is none = let many = is.full in let nothing : length batch.nodes ≡ 0 = ap length none in omega (arith, nothing, many)
+
+-- a call that changes no contexts replaces none
+replaces_none : (group : GroupState) (serials : Entries ℕ) (thread : ℕ) (asked : Call) → changes_contexts asked ≡ false → replaced_by group serials thread asked ≡ None
+replaces_none group serials thread (call.MakeCurrent number) none = absurd (false≢true (sym none))
+replaces_none group serials thread asked none = refl
+
+-- what it hands over has nodes
+has_nodes : (f : Face) (group : GroupState) (serials : Entries ℕ) (thread : ℕ) (asked : Call) → replaced_by group serials thread asked ≡ None → (batch : Batch) → IsTrueReason f group serials thread asked batch → batch.nodes ≢ []
+has_nodes f group serials thread asked replaces batch (economy.switch replaced for_reason) = let both : None ≡ Some batch.index = sym replaces ∙ replaced in let bad : ⊥ = cc in absurd bad
+has_nodes f group serials thread asked replaces batch (economy.read maps current for_reason some) = some
+has_nodes f group serials thread asked replaces batch (economy.cross index b current used is) = touching_has_nodes batch is.reaches.stored.handle is.reaches.touches
+has_nodes f group serials thread asked replaces batch (economy.full is) = full_has_nodes batch is
+
+-- what is pending as a front ends
+pub flush_ends : (f : Face) (tables : SyncTables) (index : ℕ) (batch : Batch) → IsNeededAnd tables (IsFlushOf f index reason.End) batch → IsEndingBatch tables batch
+flush_ends f tables index batch is = record { for_reason = is.is.for_reason; needed = is.needed }
+
+pub rest_ends : (tables : SyncTables) (batch : Batch) → IsEnding batch → IsEndingBatch tables batch
+rest_ends tables batch is = record { for_reason = is.for_reason; needed = needed_with_nodes tables batch is.some }
+
 -- A call and what it is
 
 -- what a call that was carried out did is what the call that was asked did
@@ -127,14 +198,22 @@ along_back {s} {t} {h} {k} {stops} f g u v group after serials thread asked done
 
 -- for an accepted call as much is due as for its data, and it may wait and hand over as it is
 pub when_accepted : {s t : Link} {h k : Option (List BackEvent)} {stops : Bool} (f : Face) (group : GroupState) (serials : Entries ℕ) (tables : SyncTables) (thread : ℕ) (asked : Call) → refusal group thread asked ≡ None →
-    AtBack s t h k (upload_due group thread asked) (may_wait asked) stops (HasTrueReason f group serials tables thread asked) → AtBack s t h k (due_of group thread asked) (waits_of group thread asked) stops (MayHandOver f group serials tables thread asked)
+    AtBack s t h k (upload_due group thread asked) (may_wait asked) stops (IsNeededAnd tables (HasTrueReason f group serials tables thread asked)) → AtBack s t h k (due_of group thread asked) (waits_of group thread asked) stops (MayHandOver f group serials tables thread asked)
 when_accepted {s} {t} {h} {k} {stops} f group serials tables thread asked accepted did =
     subst (λ (r : Option Reply). AtBack s t h k (option_map_or (λ answer. 0) r (upload_due group thread asked)) (option_map_or (λ answer. false) r (may_wait asked)) stops (MayHandOver f group serials tables thread asked)) (sym accepted)
-    (may_hand (MayHandOver f group serials tables thread asked) (λ batch is. record { accepted = accepted; true_reason = is }) did)
+    (may_hand (MayHandOver f group serials tables thread asked) (λ batch is. record { accepted = accepted; true_reason = is.is; needed = is.needed }) did)
 
 -- a call on contexts or buffers hands over for a reason that is true of it, and so does one on syncs
 pub of_objects : (f : Face) (group : GroupState) (serials : Entries ℕ) (tables : SyncTables) (thread : ℕ) (asked : Call) (batch : Batch) → IsTrueReason f group serials thread asked batch → HasTrueReason f group serials tables thread asked batch
 of_objects f group serials tables thread asked batch is = inl is
+
+-- a call that changes no contexts hands over what is needed
+pub of_needed_objects : (f : Face) (group : GroupState) (serials : Entries ℕ) (tables : SyncTables) (thread : ℕ) (asked : Call) → changes_contexts asked ≡ false → (batch : Batch) →
+    IsTrueReason f group serials thread asked batch → IsNeededAnd tables (HasTrueReason f group serials tables thread asked) batch
+of_needed_objects f group serials tables thread asked none batch is = record {
+  is = inl is;
+  needed = needed_with_nodes tables batch (has_nodes f group serials thread asked (replaces_none group serials thread asked none) batch is);
+}
 
 pub of_syncs : (f : Face) (group : GroupState) (serials : Entries ℕ) (tables : SyncTables) (thread : ℕ) (asked : Call) (batch : Batch) → IsSyncReason group serials tables thread asked batch → HasTrueReason f group serials tables thread asked batch
 of_syncs f group serials tables thread asked batch is = inr is

@@ -314,11 +314,12 @@ gone_then f h g s u t first second = record {
 }
 
 -- a sync that was made was made still
-pub made_still : (f g : Face) (s t : Link) (serial : QueueSerial) → HasGoneOn f g s t → IsMade f serial → IsMade g serial
-made_still f g s t serial on made = record {
+pub made_still : (f g : Face) (s t : Link) (tables : SyncTables) (serial : QueueSerial) → HasGoneOn f g s t → IsMade f tables serial → IsMade g tables serial
+made_still f g s t tables serial on made = record {
   of_group = subst (λ n. IsOfGroup n serial.index) (sym on.group) made.of_group;
   some = made.some;
   number = let risen = on.last serial.index in omega (arith, made.number, risen);
+  low = made.low;
 }
 
 -- a wait leaves the index of the context that is current

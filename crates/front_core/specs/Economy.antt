@@ -1,5 +1,5 @@
 -- What a call may do at the back: how many bytes the host writes, whether it may wait, and which batches it may hand over.
-use Rattle.std.specs.Prelude.{◌≡◌, ℕ, ◌+◌, ◌==◌, ◌⊎◌, Bool, true, false, not, unsigned_abs, List, [], ◌∷◌, Option, Some, None, Contains}
+use Rattle.std.specs.Prelude.{◌≡◌, ◌≢◌, ℕ, ◌+◌, ◌≤◌, ◌==◌, ◌⊎◌, Bool, true, false, not, unsigned_abs, List, [], ◌∷◌, Option, Some, None, Contains}
 use Rattle.std.specs.Option.{option_map_or}
 use Rattle.formats.specs.Texel.{bytes_per_texel}
 use Rattle.formats.specs.Rows.{needed_length}
@@ -24,7 +24,7 @@ use Rattle.gl_model.specs.Refusal.{refusal}
 use Rattle.front_model.specs.Face.{Face}
 use Rattle.sync_serials.specs.declared.serials.SyncName.{SyncName}
 use Rattle.sync_serials.specs.declared.serials.SyncName.TheVariants.{Gl, Egl}
-use Rattle.sync_serials.specs.Serials.{SyncTables, serial_at}
+use Rattle.sync_serials.specs.Serials.{SyncTables, serial_at, newest_of}
 use Rattle.front_moves.specs.Reasons.{IsCross, IsFull}
 use Rattle.front_core.specs.Share.{current_index, replaced_index, replaced_by}
 
@@ -81,17 +81,27 @@ abbrev pub maps_a_buffer : Call → Bool
 maps_a_buffer (call.MapBufferRange target offset len access) = true
 maps_a_buffer _ = false
 
+-- a batch without nodes has a number up to that of the newest sync of its index, which waits for one
+abbrev pub IsNeeded : SyncTables → Batch → Type 0
+IsNeeded tables batch = batch.nodes ≡ [] → batch.number ≤ newest_of tables batch.index
+
+-- a batch that may be handed over, and is needed
+pub record IsNeededAnd (tables : SyncTables) (MayHand : Batch → Type 0) (batch : Batch) : Type 0 where
+  pub is : MayHand batch
+  pub needed : IsNeeded tables batch
+
 -- what the context that is replaced had pending
 pub record IsSwitch (group : GroupState) (serials : Entries ℕ) (thread number : ℕ) (batch : Batch) : Type 0 where
   pub replaced : replaced_index group serials thread number ≡ Some batch.index
   pub for_reason : batch.reason ≡ reason.Switch
 
 -- The reason of a batch is true of the call that handed it over: the call replaces the batch's context; it maps a buffer in the
--- batch's context; it uses a buffer that the batch of another context touches; or the batch is as long as one may get.
+-- batch's context, where something is pending; it uses a buffer that the batch of another context touches; or the batch is as long
+-- as one may get.
 pub data IsTrueReason (f : Face) (group : GroupState) (serials : Entries ℕ) (thread : ℕ) (asked : Call) (batch : Batch) : Type 0 where
   switch : replaced_by group serials thread asked ≡ Some batch.index → batch.reason ≡ reason.Switch → IsTrueReason f group serials thread asked batch
   read : maps_a_buffer asked ≡ true → current_index group serials thread ≡ Some batch.index → batch.reason ≡ reason.Read →
-      IsTrueReason f group serials thread asked batch
+      batch.nodes ≢ [] → IsTrueReason f group serials thread asked batch
   cross : (index b : ℕ) → current_index group serials thread ≡ Some index → IsUsedBy group thread asked b → IsCross f index b batch →
       IsTrueReason f group serials thread asked batch
   full : IsFull batch → IsTrueReason f group serials thread asked batch
@@ -101,9 +111,10 @@ pub record IsOfCurrent (group : GroupState) (serials : Entries ℕ) (thread : �
   pub current : current_index group serials thread ≡ Some batch.index
   pub for_reason : batch.reason ≡ why
 
--- the context that made a sync hands over what the sync stands at the end of
+-- the context that made a sync hands over the batch that the sync stands at the end of
 pub record IsForSync (serial : QueueSerial) (batch : Batch) : Type 0 where
   pub of_index : batch.index ≡ serial.index
+  pub number : batch.number ≡ serial.number
   pub for_reason : batch.reason ≡ reason.Sync
 
 -- what a wait hands over for its own context, where it is to flush it
@@ -152,10 +163,16 @@ abbrev pub HasTrueReason : Face → GroupState → Entries ℕ → SyncTables �
 HasTrueReason f group serials tables thread asked batch =
     IsTrueReason f group serials thread asked batch ⊎ IsSyncReason group serials tables thread asked batch
 
--- what an accepted call may hand over: batches whose reason is true of it
+-- what an accepted call may hand over: batches whose reason is true of it and which are needed, by the syncs from before the call
 pub record MayHandOver (f : Face) (group : GroupState) (serials : Entries ℕ) (tables : SyncTables) (thread : ℕ) (asked : Call) (batch : Batch) : Type 0 where
   pub accepted : refusal group thread asked ≡ None
   pub true_reason : HasTrueReason f group serials tables thread asked batch
+  pub needed : IsNeeded tables batch
+
+-- what the closing of a front may hand over
+pub record IsEndingBatch (tables : SyncTables) (batch : Batch) : Type 0 where
+  pub for_reason : batch.reason ≡ reason.End
+  pub needed : IsNeeded tables batch
 
 -- the bytes that are due over some entries from a state on, each call in the state before it
 abbrev pub due_from : GroupState → List Entry → ℕ

@@ -117,6 +117,7 @@ pub record HasStopped (old new : FrontModel) (t : Link) : Type 0 where
   pub stopped : new.stopped ≡ true
   pub history : new.history ≡ old.history
   pub threads : new.threads ≡ old.threads
+  pub group : (face new.core).group ≡ (face old.core).group
   pub owns : Owns (face new.core).objects t
 
 -- a front was closed: its group holds nothing, and each of its syncs has its batch
@@ -124,6 +125,7 @@ pub record IsClosed (old new : FrontModel) (t : Link) : Type 0 where
   pub closed : new.closed ≡ true
   pub history : new.history ≡ old.history
   pub threads : new.threads ≡ old.threads
+  pub group : (face new.core).group ≡ (face old.core).group
   pub has_closed : HasClosed (face new.core) t
   pub batched : (i : ℕ) → IsOfGroup (face old.core).group i → newest_of old.syncs i ≤ last_number (batches_of t.mine) i
   pub owns : Owns (face new.core).objects t

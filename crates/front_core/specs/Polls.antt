@@ -61,11 +61,12 @@ pub record IsPoll (tables : SyncTables) (old new : Link) (x : SyncName) (timeout
   pub is_signalled : signalled ≡ nat_le polled.serial.number polled.completed
   pub retired : (signalled ≡ false → timeout ≡ 0 → ⊥) → polled.serial.number ≤ new.done polled.serial.index
 
--- a sync that was made: its index is one of the group, and its number one that the index gave or gives next
-pub record IsMade (f : Face) (serial : QueueSerial) : Type 0 where
+-- a sync that was made: its index is one of the group, and its number one that the index gave or gives next, up to the newest
+pub record IsMade (f : Face) (tables : SyncTables) (serial : QueueSerial) : Type 0 where
   pub of_group : IsOfGroup f.group serial.index
   pub some : 1 ≤ serial.number
   pub number : serial.number ≤ f.last serial.index + 1
+  pub low : serial.number ≤ newest_of tables serial.index
 
 -- a wait for a sync was answered by the number that its index had completed
 pub record IsPolled (tables : SyncTables) (old new : Link) (asked : Call) (x : SyncName) (answer : Reply) : Type 0 where

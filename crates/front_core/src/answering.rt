@@ -9,7 +9,7 @@ ghost use Rattle.front_core.specs.Share.{MayCall, IsCarriedOut, HaveIndexes, Has
 ghost use Rattle.front_core.specs.Front.{MayAnswer, MayServe, IsServed, IsAnswered};
 ghost use Rattle.front_core.specs.Polls.{Polls, Flushes};
 ghost use Rattle.back_core.specs.Frame.{ActsAtBack};
-ghost use Rattle.front_core.specs.Economy.{upload_due, IsTrueReason, HasTrueReason, MayHandOver, due_of, waits_of, may_wait};
+ghost use Rattle.front_core.specs.Economy.{upload_due, IsNeededAnd, IsTrueReason, HasTrueReason, MayHandOver, due_of, waits_of, may_wait};
 
 use crate::answers_come_to::answers_come_to;
 use crate::share::Share;
@@ -84,7 +84,7 @@ impl Share {
         ensures err { OnErr result (Owns (face self.new.core).objects (L.state link.new)) }
         ensures cause { HasCause (L.faults link.old) (L.faults link.new) result }
         ensures at_back { ActsAtBack L.state L.told link.old link.new 0 false (is_err result)
-            (IsTrueReason (face self.old.core) self.old.state self.old.serials thread call.now) }
+            (IsNeededAnd syncs.now (IsTrueReason (face self.old.core) self.old.state self.old.serials thread call.now)) }
     {
         match call {
             Call::CreateContext { number } => self.create_context(link, thread, *number),
@@ -201,7 +201,7 @@ impl Share {
         ensures err { OnErr result (Owns (face self.new.core).objects (L.state link.new)) }
         ensures cause { HasCause (L.faults link.old) (L.faults link.new) result }
         ensures at_back { ActsAtBack L.state L.told link.old link.new (upload_due self.old.state thread call.now) (may_wait call.now) (is_err result)
-            (HasTrueReason (face self.old.core) self.old.state self.old.serials syncs.old thread call.now) }
+            (IsNeededAnd syncs.old (HasTrueReason (face self.old.core) self.old.state self.old.serials syncs.old thread call.now)) }
     {
         syncs_come_to();
         if reaches_syncs(call) {

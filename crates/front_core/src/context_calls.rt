@@ -9,7 +9,7 @@ ghost use Rattle.front_core.specs.Share.{MayCall, Stays, IsCarriedOut, HaveIndex
 ghost use Rattle.front_core.specs.Polls.{HasFlushedAll};
 ghost use Rattle.sync_serials.specs.Serials.{newest_of};
 ghost use Rattle.back_core.specs.Frame.{ActsAtBack, NoBatch};
-ghost use Rattle.front_core.specs.Economy.{IsTrueReason, IsSwitch};
+ghost use Rattle.front_core.specs.Economy.{IsNeededAnd, IsTrueReason, IsSwitch};
 
 use crate::share::Share;
 use crate::state_calls_come_to::state_calls_come_to;
@@ -85,7 +85,8 @@ impl Share {
         ensures group { (face self.new.core).group ≡ (face self.old.core).group }
         ensures err { OnErr result (Owns (face self.new.core).objects (L.state link.new)) }
         ensures cause { HasCause (L.faults link.old) (L.faults link.new) result }
-        ensures at_back { ActsAtBack L.state L.told link.old link.new 0 false (is_err result) (IsSwitch self.old.state self.old.serials thread number) }
+        ensures at_back { ActsAtBack L.state L.told link.old link.new 0 false (is_err result)
+            (IsNeededAnd syncs.now (IsSwitch self.old.state self.old.serials thread number)) }
     {
         match self.given_up(thread, number) {
             Some(index) => self.flush_context(link, syncs, index, Reason::Switch),
@@ -170,7 +171,7 @@ impl Share {
         ensures err { OnErr result (Owns (face self.new.core).objects (L.state link.new)) }
         ensures cause { HasCause (L.faults link.old) (L.faults link.new) result }
         ensures at_back { ActsAtBack L.state L.told link.old link.new 0 false (is_err result)
-            (IsTrueReason (face self.old.core) self.old.state self.old.serials thread (Call.MakeCurrent number)) }
+            (IsNeededAnd syncs.now (IsTrueReason (face self.old.core) self.old.state self.old.serials thread (Call.MakeCurrent number))) }
     {
         match self.switch(link, syncs, thread, u32::from(number)) {
             Ok(()) => match self.state_call(link, thread, &Call::MakeCurrent { number }) {

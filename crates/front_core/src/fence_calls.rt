@@ -8,7 +8,7 @@ ghost use Rattle.front_moves.specs.Core.{face};
 ghost use Rattle.sync_serials.specs.Serials.{makes, ends, asks, is_wait};
 ghost use Rattle.front_core.specs.Answering.{reaches_syncs, IsWaitSync};
 ghost use Rattle.front_core.specs.Share.{MayCall, IsChanged, HaveIndexes, current_index, is_of_state};
-ghost use Rattle.front_core.specs.Economy.{IsForPoll, IsSyncReason, flushes_own, may_wait};
+ghost use Rattle.front_core.specs.Economy.{IsNeededAnd, IsForPoll, IsSyncReason, flushes_own, may_wait};
 ghost use Rattle.front_core.specs.Front.{MayServe, IsServed};
 ghost use Rattle.front_core.specs.Polls.{HasFlushedAll, IsPoll, Polls, Flushes, answer_by, timeout_of};
 
@@ -126,7 +126,8 @@ impl Share {
         ensures group { (face self.new.core).group ≡ (face self.old.core).group }
         ensures err { OnErr result (Owns (face self.new.core).objects (L.state link.new)) }
         ensures cause { HasCause (L.faults link.old) (L.faults link.new) result }
-        ensures at_back { ActsAtBack L.state L.told link.old link.new 0 false (is_err result) (IsSyncReason self.old.state self.old.serials syncs.now thread Call.Flush) }
+        ensures at_back { ActsAtBack L.state L.told link.old link.new 0 false (is_err result)
+            (IsNeededAnd syncs.now (IsSyncReason self.old.state self.old.serials syncs.now thread Call.Flush)) }
     {
         syncs_come_to();
         match self.flush_current(link, syncs, thread, Reason::Flush) {
@@ -155,7 +156,8 @@ impl Share {
         ensures group { (face self.new.core).group ≡ (face self.old.core).group }
         ensures err { OnErr result (Owns (face self.new.core).objects (L.state link.new)) }
         ensures cause { HasCause (L.faults link.old) (L.faults link.new) result }
-        ensures at_back { ActsAtBack L.state L.told link.old link.new 0 true (is_err result) (IsSyncReason self.old.state self.old.serials syncs.now thread Call.Finish) }
+        ensures at_back { ActsAtBack L.state L.told link.old link.new 0 true (is_err result)
+            (IsNeededAnd syncs.now (IsSyncReason self.old.state self.old.serials syncs.now thread Call.Finish)) }
     {
         syncs_come_to();
         match self.finish_current(link, syncs, thread) {
@@ -186,7 +188,8 @@ impl Share {
         ensures group { (face self.new.core).group ≡ (face self.old.core).group }
         ensures err { OnErr result (Owns (face self.new.core).objects (L.state link.new)) }
         ensures cause { HasCause (L.faults link.old) (L.faults link.new) result }
-        ensures at_back { ActsAtBack L.state L.told link.old link.new 0 false (is_err result) (IsSyncReason self.old.state self.old.serials syncs.now thread call.now) }
+        ensures at_back { ActsAtBack L.state L.told link.old link.new 0 false (is_err result)
+            (IsNeededAnd syncs.now (IsSyncReason self.old.state self.old.serials syncs.now thread call.now)) }
     {
         syncs_are_there();
         syncs_come_to();
@@ -257,7 +260,8 @@ impl Share {
         ensures group { (face self.new.core).group ≡ (face self.old.core).group }
         ensures err { OnErr result (Owns (face self.new.core).objects (L.state link.new)) }
         ensures cause { HasCause (L.faults link.old) (L.faults link.new) result }
-        ensures at_back { ActsAtBack L.state L.told link.old link.new 0 (not (timeout == 0)) (is_err result) (IsForPoll self.old.state self.old.serials syncs.now thread name flush timeout) }
+        ensures at_back { ActsAtBack L.state L.told link.old link.new 0 (not (timeout == 0)) (is_err result)
+            (IsNeededAnd syncs.now (IsForPoll self.old.state self.old.serials syncs.now thread name flush timeout)) }
     {
         syncs_are_there();
         waits_come_to();
@@ -292,7 +296,8 @@ impl Share {
         ensures group { (face self.new.core).group ≡ (face self.old.core).group }
         ensures err { OnErr result (Owns (face self.new.core).objects (L.state link.new)) }
         ensures cause { HasCause (L.faults link.old) (L.faults link.new) result }
-        ensures at_back { ActsAtBack L.state L.told link.old link.new 0 (may_wait call.now) (is_err result) (IsSyncReason self.old.state self.old.serials syncs.now thread call.now) }
+        ensures at_back { ActsAtBack L.state L.told link.old link.new 0 (may_wait call.now) (is_err result)
+            (IsNeededAnd syncs.now (IsSyncReason self.old.state self.old.serials syncs.now thread call.now)) }
     {
         let name = SyncName::Gl(number);
         match self.wait_call(link, syncs, thread, name, flags == 1, timeout, call) {
@@ -323,7 +328,8 @@ impl Share {
         ensures group { (face self.new.core).group ≡ (face self.old.core).group }
         ensures err { OnErr result (Owns (face self.new.core).objects (L.state link.new)) }
         ensures cause { HasCause (L.faults link.old) (L.faults link.new) result }
-        ensures at_back { ActsAtBack L.state L.told link.old link.new 0 (may_wait call.now) (is_err result) (IsSyncReason self.old.state self.old.serials syncs.now thread call.now) }
+        ensures at_back { ActsAtBack L.state L.told link.old link.new 0 (may_wait call.now) (is_err result)
+            (IsNeededAnd syncs.now (IsSyncReason self.old.state self.old.serials syncs.now thread call.now)) }
     {
         let name = SyncName::Egl(number);
         match self.wait_call(link, syncs, thread, name, flush, timeout, call) {
@@ -351,7 +357,8 @@ impl Share {
         ensures group { (face self.new.core).group ≡ (face self.old.core).group }
         ensures err { OnErr result (Owns (face self.new.core).objects (L.state link.new)) }
         ensures cause { HasCause (L.faults link.old) (L.faults link.new) result }
-        ensures at_back { ActsAtBack L.state L.told link.old link.new 0 (may_wait call.now) (is_err result) (IsSyncReason self.old.state self.old.serials syncs.old thread call.now) }
+        ensures at_back { ActsAtBack L.state L.told link.old link.new 0 (may_wait call.now) (is_err result)
+            (IsNeededAnd syncs.old (IsSyncReason self.old.state self.old.serials syncs.old thread call.now)) }
     {
         match call {
             Call::FenceSync { number, .. } => {

@@ -10,8 +10,7 @@ ghost use Rattle.front_core.specs.Share.{HasOrigin, is_built, is_map_read};
 ghost use Rattle.front_core.specs.Polls.{Polls, Flushes};
 ghost use Rattle.front_core.specs.Front.{FrontStands, IsNewFront, HasAnswered, HasStopped, IsClosed, entry_of};
 ghost use Rattle.back_core.specs.Frame.{ActsAtBack, NoBatch};
-ghost use Rattle.front_moves.specs.Reasons.{IsEnding};
-ghost use Rattle.front_core.specs.Economy.{MayHandOver, due_of, waits_of};
+ghost use Rattle.front_core.specs.Economy.{MayHandOver, IsEndingBatch, due_of, waits_of};
 
 use crate::histories_come_to::histories_come_to;
 use crate::share::Share;
@@ -173,7 +172,7 @@ impl Front {
         ensures ok { OnOk result (IsClosed self.old self.new (L.state link.new)) }
         ensures err { OnErr result (HasStopped self.old self.new (L.state link.new)) }
         ensures cause { HasCause (L.faults link.old) (L.faults link.new) result }
-        ensures at_back { ActsAtBack L.state L.told link.old link.new 0 false (is_err result) IsEnding }
+        ensures at_back { ActsAtBack L.state L.told link.old link.new 0 false (is_err result) (IsEndingBatch self.old.syncs) }
     {
         histories_come_to();
         match self.share.flush_all(link, &self.syncs) {

@@ -6,10 +6,10 @@ ghost use Rattle.back_core.specs.Needs.{IsOfGroup};
 ghost use Rattle.back_core.specs.Frame.{ActsAtBack, NoBatch};
 ghost use Rattle.front_model.specs.Stands.{Holds, Owns, no_hands};
 ghost use Rattle.front_moves.specs.Core.{face};
-ghost use Rattle.front_moves.specs.Reasons.{IsFlushOf, IsEnding};
+ghost use Rattle.front_moves.specs.Reasons.{IsFlushOf};
 ghost use Rattle.sync_serials.specs.Serials.{serial_at, newest_of};
 ghost use Rattle.front_core.specs.Share.{Stays, HaveIndexes, current_index};
-ghost use Rattle.front_core.specs.Economy.{IsOfCurrent, IsOwnFlush, IsForSync, IsWaitedFor, IsForWait, IsForPoll};
+ghost use Rattle.front_core.specs.Economy.{IsNeededAnd, IsOfCurrent, IsOwnFlush, IsForSync, IsWaitedFor, IsForWait, IsForPoll, IsEndingBatch};
 ghost use Rattle.front_core.specs.Polls.{IsPoll, IsMade, HasFlushedAll, FlushedStay, HasFinished};
 
 use crate::share::Share;
@@ -40,7 +40,8 @@ impl Share {
         ensures group { (face self.new.core).group ≡ (face self.old.core).group }
         ensures err { OnErr result (Owns (face self.new.core).objects (L.state link.new)) }
         ensures cause { HasCause (L.faults link.old) (L.faults link.new) result }
-        ensures at_back { ActsAtBack L.state L.told link.old link.new 0 false (is_err result) (IsFlushOf (face self.old.core) index reason) }
+        ensures at_back { ActsAtBack L.state L.told link.old link.new 0 false (is_err result)
+            (IsNeededAnd syncs.now (IsFlushOf (face self.old.core) index reason)) }
     {
         if self.core.has_pending(index) || syncs.newest(index) > self.core.last(index) {
             return self.core.hand_over(link, index, reason);
@@ -69,7 +70,8 @@ impl Share {
         ensures group { (face self.new.core).group ≡ (face self.old.core).group }
         ensures err { OnErr result (Owns (face self.new.core).objects (L.state link.new)) }
         ensures cause { HasCause (L.faults link.old) (L.faults link.new) result }
-        ensures at_back { ActsAtBack L.state L.told link.old link.new 0 false (is_err result) (IsOfCurrent self.old.state self.old.serials thread reason) }
+        ensures at_back { ActsAtBack L.state L.told link.old link.new 0 false (is_err result)
+            (IsNeededAnd syncs.now (IsOfCurrent self.old.state self.old.serials thread reason)) }
     {
         match self.index(thread) {
             Some(index) => self.flush_context(link, syncs, index, reason),
@@ -162,7 +164,8 @@ impl Share {
         ensures group { (face self.new.core).group ≡ (face self.old.core).group }
         ensures err { OnErr result (Owns (face self.new.core).objects (L.state link.new)) }
         ensures cause { HasCause (L.faults link.old) (L.faults link.new) result }
-        ensures at_back { ActsAtBack L.state L.told link.old link.new 0 true (is_err result) (IsOfCurrent self.old.state self.old.serials thread Reason.Finish) }
+        ensures at_back { ActsAtBack L.state L.told link.old link.new 0 true (is_err result)
+            (IsNeededAnd syncs.now (IsOfCurrent self.old.state self.old.serials thread Reason.Finish)) }
     {
         match self.index(thread) {
             Some(index) => match self.flush_context(link, syncs, index, Reason::Finish) {
@@ -194,7 +197,8 @@ impl Share {
         ensures group { (face self.new.core).group ≡ (face self.old.core).group }
         ensures err { OnErr result (Owns (face self.new.core).objects (L.state link.new)) }
         ensures cause { HasCause (L.faults link.old) (L.faults link.new) result }
-        ensures at_back { ActsAtBack L.state L.told link.old link.new 0 false (is_err result) (IsOwnFlush self.old.state self.old.serials thread flush) }
+        ensures at_back { ActsAtBack L.state L.told link.old link.new 0 false (is_err result)
+            (IsNeededAnd syncs.now (IsOwnFlush self.old.state self.old.serials thread flush)) }
     {
         if flush {
             return self.flush_current(link, syncs, thread, Reason::Flush);
@@ -245,7 +249,7 @@ impl Share {
         requires indexes { HaveIndexes self.old.state.contexts self.old.serials (face self.old.core).group }
         requires tables { syncs.now.group ≡ (face self.old.core).group }
         requires newest { (i : ℕ) → IsOfGroup (face self.old.core).group i → newest_of syncs.now i ≤ (face self.old.core).last i + 1 }
-        requires made { IsMade (face self.old.core) serial }
+        requires made { IsMade (face self.old.core) syncs.now serial }
         ensures stays { OnOk result (Stays (face self.old.core) (face self.new.core) (L.state link.old) (L.state link.new)) }
         ensures flushed { OnOk result (flush ≡ true → IfSome (current_index self.old.state self.old.serials thread) (HasFlushedAll (face self.new.core) syncs.now)) }
         ensures retired { OnOk result ((timeout ≡ 0 → ⊥) → serial.number ≤ (L.state link.new).done serial.index) }
@@ -256,7 +260,8 @@ impl Share {
         ensures group { (face self.new.core).group ≡ (face self.old.core).group }
         ensures err { OnErr result (Owns (face self.new.core).objects (L.state link.new)) }
         ensures cause { HasCause (L.faults link.old) (L.faults link.new) result }
-        ensures at_back { ActsAtBack L.state L.told link.old link.new 0 (not (timeout == 0)) (is_err result) (IsForWait self.old.state self.old.serials thread serial flush timeout) }
+        ensures at_back { ActsAtBack L.state L.told link.old link.new 0 (not (timeout == 0)) (is_err result)
+            (IsNeededAnd syncs.now (IsForWait self.old.state self.old.serials thread serial flush timeout)) }
     {
         match self.flush_if(link, syncs, thread, flush) {
             Ok(()) => self.wait_if(link, serial, timeout),
@@ -280,7 +285,7 @@ impl Share {
         requires tables { syncs.now.group ≡ (face self.old.core).group }
         requires newest { (i : ℕ) → IsOfGroup (face self.old.core).group i → newest_of syncs.now i ≤ (face self.old.core).last i + 1 }
         requires there { IsSome (serial_at syncs.now name) }
-        requires made { (serial : QueueSerial) → serial_at syncs.now name ≡ Some serial → IsMade (face self.old.core) serial }
+        requires made { (serial : QueueSerial) → serial_at syncs.now name ≡ Some serial → IsMade (face self.old.core) syncs.now serial }
         ensures stays { OnOk result (Stays (face self.old.core) (face self.new.core) (L.state link.old) (L.state link.new)) }
         ensures polled { IfOk result (λ signalled. IsPoll syncs.now (L.state link.old) (L.state link.new) name timeout signalled) }
         ensures flushed { IfOk result (λ signalled. signalled ≡ false → flush ≡ true → IfSome (current_index self.old.state self.old.serials thread) (HasFlushedAll (face self.new.core) syncs.now)) }
@@ -289,7 +294,8 @@ impl Share {
         ensures group { (face self.new.core).group ≡ (face self.old.core).group }
         ensures err { OnErr result (Owns (face self.new.core).objects (L.state link.new)) }
         ensures cause { HasCause (L.faults link.old) (L.faults link.new) result }
-        ensures at_back { ActsAtBack L.state L.told link.old link.new 0 (not (timeout == 0)) (is_err result) (IsForPoll self.old.state self.old.serials syncs.now thread name flush timeout) }
+        ensures at_back { ActsAtBack L.state L.told link.old link.new 0 (not (timeout == 0)) (is_err result)
+            (IsNeededAnd syncs.now (IsForPoll self.old.state self.old.serials syncs.now thread name flush timeout)) }
     {
         let Some(serial) = syncs.serial_of(name) else {
             unreachable!();
@@ -318,7 +324,7 @@ impl Share {
         ensures group { (face self.new.core).group ≡ (face self.old.core).group }
         ensures err { OnErr result (Owns (face self.new.core).objects (L.state link.new)) }
         ensures cause { HasCause (L.faults link.old) (L.faults link.new) result }
-        ensures at_back { ActsAtBack L.state L.told link.old link.new 0 false (is_err result) IsEnding }
+        ensures at_back { ActsAtBack L.state L.told link.old link.new 0 false (is_err result) (IsEndingBatch syncs.now) }
     {
         for place in 0..8u8 {
             let index = SerialIndex::new(8 * self.core.group() + place);

@@ -41,7 +41,7 @@ pub(crate) fn syncs_are_there()
     ensures found_by_wait { (f : Face) (s : Link) (group : GroupState) (serials : Entries ℕ) (tables : SyncTables) (thread number : ℕ) (asked : Call) →
         MayServe f s group serials tables thread asked → IsWaitSync asked number → IsSome (serial_at tables (Gl number)) }
     ensures made { (f : Face) (s : Link) (group : GroupState) (serials : Entries ℕ) (tables : SyncTables) (thread : ℕ) (asked : Call) (x : SyncName) (serial : QueueSerial) →
-        MayServe f s group serials tables thread asked → serial_at tables x ≡ Some serial → IsMade f serial }
+        MayServe f s group serials tables thread asked → serial_at tables x ≡ Some serial → IsMade f tables serial }
     ensures owns { (f : Face) (s : Link) → Holds f no_hands s → Owns f.objects s }
 {
     steps_may();

@@ -1,12 +1,13 @@
 -- Why batches are handed over, seen from before the contexts were flushed.
-use Rattle.std.proofs.Common.{◌≡◌, ◌≢◌, ℕ, ◌≤◌, lit<, Bool, true, false, List, [], ◌∷◌, length, refl, sym, ap, subst, ◌∙◌}
+use Rattle.std.proofs.Common.{◌≡◌, ◌≢◌, ℕ, ◌<◌, ◌≤◌, lit<, arith, Bool, true, false, List, [], ◌∷◌, length, refl, sym, ap, subst, ◌∙◌}
 use Rattle.std.specs.Prelude.{Option, Some, None, IfSome, IfNone, Contains}
 use Rattle.std.proofs.lemmas.Bool.{false≢true}
 use Rattle.std.proofs.lemmas.List.Elements.{Contains-append_left, Contains-append_right}
 use Rattle.vk_types.specs.declared.batches.Batch.{Batch}
+use Rattle.vk_types.specs.declared.batches.Reason.{Reason}
 use Rattle.vk_types.specs.declared.batches.Reason.TheVariants as reason
 use Rattle.front_model.specs.Face.{Buffer, Stored, Face, nodes_touch}
-use Rattle.front_moves.specs.Reasons.{IsFlushOf, ReachesBuffer, IsTouching, IsCross, IsFull, IsParting, IsSettling, IsEnding, cross, full, parting, reading}
+use Rattle.front_moves.specs.Reasons.{IsFlushOf, IsFlushOfSome, ReachesBuffer, IsTouching, IsCross, IsFull, IsParting, IsSettling, IsEnding, cross, full, parting, reading}
 
 pub reaches_before : (f g : Face) (b : ℕ) (batch : Batch) → g.objects ≡ f.objects → ReachesBuffer g b batch → ReachesBuffer f b batch
 reaches_before f g b batch same reaches = record { stored = reaches.stored; is = ap (λ o. o (Buffer b)) (sym same) ∙ reaches.is; touches = reaches.touches }
@@ -14,16 +15,23 @@ reaches_before f g b batch same reaches = record { stored = reaches.stored; is =
 pub cross_before : (f g : Face) (index b : ℕ) (batch : Batch) → g.objects ≡ f.objects → IsCross g index b batch → IsCross f index b batch
 cross_before f g index b batch same is = record { of_other = is.of_other; reaches = reaches_before f g b batch same is.reaches; for_reason = is.for_reason }
 
+-- what is flushed where something is pending
+pub flush_of_some : (f : Face) (index : ℕ) (why : Reason) → 0 < length (f.pending index) → (batch : Batch) → IsFlushOf f index why batch → IsFlushOfSome f index why batch
+flush_of_some f index why more batch flush = record {
+  flush = flush;
+  some = λ none. let nothing : length (f.pending index) ≡ 0 = ap length (sym flush.all ∙ none) in omega (arith, nothing, more);
+}
+
 -- what is flushed where a test says that it touches the buffer
 pub is_touching : (f : Face) (index b : ℕ) (test : Bool) → IfSome (f.objects (Buffer b)) (λ x. nodes_touch (f.pending index) x.handle ≡ test) → IfNone (f.objects (Buffer b)) (test ≡ false) →
-    test ≡ true → (batch : Batch) → IsFlushOf f index reason.Cross batch → IsTouching f index b batch
+    test ≡ true → (batch : Batch) → IsFlushOfSome f index reason.Cross batch → IsTouching f index b batch
 is_touching f index b test some none told batch flush = go (f.objects (Buffer b)) refl some none
   where
     go : (o : Option Stored) → f.objects (Buffer b) ≡ o → IfSome o (λ x. nodes_touch (f.pending index) x.handle ≡ test) → IfNone o (test ≡ false) → IsTouching f index b batch
     go (Some x) is touch absent = record {
-      of_index = flush.of_index;
-      reaches = record { stored = x; is = is; touches = ap (λ nodes. nodes_touch nodes x.handle) flush.all ∙ touch ∙ told };
-      for_reason = flush.for_reason;
+      of_index = flush.flush.of_index;
+      reaches = record { stored = x; is = is; touches = ap (λ nodes. nodes_touch nodes x.handle) flush.flush.all ∙ touch ∙ told };
+      for_reason = flush.flush.for_reason;
     }
     go None is touch absent = absurd (false≢true (sym absent ∙ told))
 
@@ -32,8 +40,8 @@ pub is_cross : (f g : Face) (index other b : ℕ) → g.objects ≡ f.objects �
 is_cross f g index other b same ne batch is = record { of_other = λ e. ne (sym is.of_index ∙ e); reaches = reaches_before f g b batch same is.reaches; for_reason = is.for_reason }
 
 -- what is flushed where so much is pending
-pub is_full : (f : Face) (index : ℕ) → 1024 ≤ length (f.pending index) → (batch : Batch) → IsFlushOf f index reason.Full batch → IsFull batch
-is_full f index many batch flush = record { full = subst (λ nodes. 1024 ≤ length nodes) (sym flush.all) many; for_reason = flush.for_reason }
+pub is_full : (f : Face) (index : ℕ) → 1024 ≤ length (f.pending index) → (batch : Batch) → IsFlushOfSome f index reason.Full batch → IsFull batch
+is_full f index many batch flush = record { full = subst (λ nodes. 1024 ≤ length nodes) (sym flush.flush.all) many; for_reason = flush.flush.for_reason }
 
 pub parts_one : (f : Face) (index b : ℕ) (batch : Batch) → IsCross f index b batch → IsParting f index (b ∷ []) batch
 parts_one f index b batch is = cross b (0, lit< tt, refl) is
@@ -49,8 +57,8 @@ parting_before f g index some all same more batch (full is) = full is
 pub settles_parting : (f : Face) (index b : ℕ) (batch : Batch) → IsParting f index (b ∷ []) batch → IsSettling f index b batch
 settles_parting f index b batch is = parting is
 
-pub settles_reading : (f g : Face) (index b : ℕ) (batch : Batch) → IsFlushOf g index reason.Read batch → IsSettling f index b batch
-settles_reading f g index b batch flush = reading flush.of_index flush.for_reason
+pub settles_reading : (f g : Face) (index b : ℕ) (batch : Batch) → IsFlushOfSome g index reason.Read batch → IsSettling f index b batch
+settles_reading f g index b batch flush = reading flush.flush.of_index flush.flush.for_reason flush.some
 
 -- of two buffers
 pub first_parts : (f : Face) (index a b : ℕ) (batch : Batch) → IsParting f index (a ∷ []) batch → IsParting f index (a ∷ b ∷ []) batch
@@ -59,5 +67,5 @@ first_parts f index a b = parting_before f f index (a ∷ []) (a ∷ b ∷ []) r
 pub second_parts : (f g : Face) (index a b : ℕ) → g.objects ≡ f.objects → (batch : Batch) → IsParting g index (b ∷ []) batch → IsParting f index (a ∷ b ∷ []) batch
 second_parts f g index a b same = parting_before f g index (b ∷ []) (a ∷ b ∷ []) same (Contains-append_right (a ∷ []) (b ∷ []))
 
-pub ends : (f : Face) (index : ℕ) (batch : Batch) → IsFlushOf f index reason.End batch → IsEnding batch
-ends f index batch flush = flush.for_reason
+pub ends : (f : Face) (index : ℕ) (batch : Batch) → IsFlushOfSome f index reason.End batch → IsEnding batch
+ends f index batch flush = record { for_reason = flush.flush.for_reason; some = flush.some }

@@ -1,16 +1,22 @@
 -- Why batches are handed over.
-use Rattle.std.specs.Prelude.{◌≡◌, ◌≢◌, ℕ, ◌≤◌, true, List, [], ◌∷◌, length, Some, Contains}
+use Rattle.std.specs.Prelude.{◌≡◌, ◌≢◌, ℕ, ◌+◌, ◌≤◌, true, List, [], ◌∷◌, length, Some, Contains}
 use Rattle.vk_types.specs.declared.batches.Batch.{Batch}
 use Rattle.vk_types.specs.declared.batches.Reason.{Reason}
 use Rattle.vk_types.specs.declared.batches.Reason.TheVariants as reason
 use Rattle.back_core.specs.Own.{batch_touches}
 use Rattle.front_model.specs.Face.{Buffer, Stored, Face}
 
--- all that is pending in an index, handed over for a reason
+-- all that is pending in an index, handed over for a reason as the next batch of the index
 pub record IsFlushOf (f : Face) (index : ℕ) (why : Reason) (batch : Batch) : Type 0 where
   pub of_index : batch.index ≡ index
+  pub number : batch.number ≡ f.last index + 1
   pub all : batch.nodes ≡ f.pending index
   pub for_reason : batch.reason ≡ why
+
+-- the same, where something is pending
+pub record IsFlushOfSome (f : Face) (index : ℕ) (why : Reason) (batch : Batch) : Type 0 where
+  pub flush : IsFlushOf f index why batch
+  pub some : batch.nodes ≢ []
 
 -- the batch touches the store of a buffer
 pub record ReachesBuffer (f : Face) (b : ℕ) (batch : Batch) : Type 0 where
@@ -40,11 +46,12 @@ pub data IsParting (f : Face) (index : ℕ) (buffers : List ℕ) (batch : Batch)
   cross : (b : ℕ) → Contains buffers b → IsCross f index b batch → IsParting f index buffers batch
   full : IsFull batch → IsParting f index buffers batch
 
--- what is handed over before the host may use a buffer: also what the own context has pending
+-- what is handed over before the host may use a buffer: also what the own context has pending, which is something
 pub data IsSettling (f : Face) (index b : ℕ) (batch : Batch) : Type 0 where
   parting : IsParting f index (b ∷ []) batch → IsSettling f index b batch
-  reading : batch.index ≡ index → batch.reason ≡ reason.Read → IsSettling f index b batch
+  reading : batch.index ≡ index → batch.reason ≡ reason.Read → batch.nodes ≢ [] → IsSettling f index b batch
 
--- what is handed over as a front ends
-abbrev pub IsEnding : Batch → Type 0
-IsEnding batch = batch.reason ≡ reason.End
+-- what is handed over as a front ends, where something is pending
+pub record IsEnding (batch : Batch) : Type 0 where
+  pub for_reason : batch.reason ≡ reason.End
+  pub some : batch.nodes ≢ []

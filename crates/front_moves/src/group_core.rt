@@ -10,7 +10,7 @@ ghost use Rattle.front_model.specs.Face.{Buffer, outline_at, view, nodes_touch};
 ghost use Rattle.front_model.specs.Stands.{Holds, Owns, Moved, IsQuiet, no_hands};
 ghost use Rattle.front_moves.specs.Core.{face, IsFlushed, OnlyFlushed, HasFlushedSome, IsApart, IsParted};
 ghost use Rattle.back_core.specs.Frame.{ActsAtBack};
-ghost use Rattle.front_moves.specs.Reasons.{IsFlushOf, IsTouching, IsCross, IsParting};
+ghost use Rattle.front_moves.specs.Reasons.{IsFlushOf, IsFlushOfSome, IsTouching, IsCross, IsParting};
 
 use crate::buffers::Buffers;
 use crate::comes_to::{flush_comes_to, new_comes_to};
@@ -127,7 +127,7 @@ impl Core {
         ensures link { OnOk result (((L.state link.new).done ≡ (L.state link.old).done) × ((L.state link.new).asked ≡ (L.state link.old).asked)) }
         ensures err { OnErr result (Owns (face self.new).objects (L.state link.new)) }
         ensures cause { HasCause (L.faults link.old) (L.faults link.new) result }
-        ensures at_back { ActsAtBack L.state L.told link.old link.new 0 false (is_err result) (IsFlushOf (face self.old) index reason) }
+        ensures at_back { ActsAtBack L.state L.told link.old link.new 0 false (is_err result) (IsFlushOfSome (face self.old) index reason) }
     {
         flush_comes_to();
         if self.has_pending(index) {

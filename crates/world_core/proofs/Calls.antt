@@ -24,8 +24,7 @@ use Rattle.back_core.specs.Run.{journal_of}
 use Rattle.back_core.specs.Back.{BackModel}
 use Rattle.back_core.specs.Steps.{CleansWhole}
 use Rattle.front_moves.specs.Core.{face}
-use Rattle.front_moves.specs.Reasons.{IsEnding}
-use Rattle.front_core.specs.Economy.{MayHandOver, due_of, due_over, may_wait, waits_of}
+use Rattle.front_core.specs.Economy.{MayHandOver, IsEndingBatch, due_of, due_over, may_wait, waits_of}
 use Rattle.front_core.specs.Front.{FrontModel, HasAnswered, HasStopped, IsClosed}
 use Rattle.play_model.specs.Plays.{Play, Plays, HasPlayed, HasEnded, MayPlay, IsReady, members, entry_on}
 use Rattle.world_core.specs.World.{history_at, play_at, group_numbers, due_in}
@@ -242,22 +241,22 @@ module _ (law : (h : List BackEvent) (g : ℕ) → (link_of h g).group ≡ g) (f
     at_back = subst (λ (m : ℕ). GoesOn m (Some h) (Some k)) (law h g) at_back.goes_on;
   }
 
-  pub closed_from : IsClosed before after (link_of k n) → AtBack (link_of h g) (link_of k n) (Some h) (Some k) 0 false false IsEnding →
+  pub closed_from : IsClosed before after (link_of k n) → AtBack (link_of h g) (link_of k n) (Some h) (Some k) 0 false false (IsEndingBatch before.syncs) →
       HasClosedOne fronts (slice_set fronts i after) h k g
   closed_from closed at_back = record {
     fronts = replaces;
     closed = subst (λ (m : ℕ). IsClosed before after (link_of k m)) (group_is at_back) closed;
-    at_back = subst (λ (m : ℕ). AtBack (link_of h g) (link_of k m) (Some h) (Some k) 0 false false IsEnding) (group_is at_back) at_back;
+    at_back = subst (λ (m : ℕ). AtBack (link_of h g) (link_of k m) (Some h) (Some k) 0 false false (IsEndingBatch before.syncs)) (group_is at_back) at_back;
   }
 
   pub close_ok : {A : Type 0} (r : Result A Stop) → OnOk r (IsClosed before after (link_of k n)) →
-      AtBack (link_of h g) (link_of k n) (Some h) (Some k) 0 false (is_err r) IsEnding →
+      AtBack (link_of h g) (link_of k n) (Some h) (Some k) 0 false (is_err r) (IsEndingBatch before.syncs) →
       OnOk r (HasClosedOne fronts (slice_set fronts i after) h k g)
   close_ok (Ok a) closed at_back = closed_from closed at_back
   close_ok (Err stop) closed at_back = tt
 
   pub close_err : {A : Type 0} (r : Result A Stop) → OnErr r (HasStopped before after (link_of k n)) →
-      AtBack (link_of h g) (link_of k n) (Some h) (Some k) 0 false (is_err r) IsEnding →
+      AtBack (link_of h g) (link_of k n) (Some h) (Some k) 0 false (is_err r) (IsEndingBatch before.syncs) →
       OnErr r (HasBroken fronts (slice_set fronts i after) h k g)
   close_err (Ok a) stopped at_back = tt
   close_err (Err stop) stopped at_back = broken_from stopped at_back

@@ -23,8 +23,7 @@ use Rattle.back_core.specs.Back.{BackModel}
 use Rattle.back_core.specs.Steps.{CleansWhole, CleansUp, Submits, Turns, RetiresOne}
 use Rattle.front_model.specs.Stands.{Owns}
 use Rattle.front_moves.specs.Core.{face}
-use Rattle.front_moves.specs.Reasons.{IsEnding}
-use Rattle.front_core.specs.Economy.{MayHandOver, due_of, waits_of}
+use Rattle.front_core.specs.Economy.{MayHandOver, IsEndingBatch, due_of, waits_of}
 use Rattle.front_core.specs.Front.{FrontModel, FrontStands, IsNewFront, HasAnswered, HasStopped, IsClosed}
 use Rattle.play_model.specs.Plays.{HasPlayed, Play, members, is_answered}
 use Rattle.world_core.specs.declared.event.Stepped.{Stepped}
@@ -169,7 +168,8 @@ pub record HasBroken (old new : List FrontModel) (h k : List BackEvent) (group :
 pub record HasClosedOne (old new : List FrontModel) (h k : List BackEvent) (group : ℕ) : Type 0 where
   pub fronts : Replaces old new group
   pub closed : IsClosed fronts.before fronts.after (link_of k group)
-  pub at_back : AtBack (link_of h group) (link_of k group) (Some h) (Some k) 0 false false IsEnding
+  pub at_back : AtBack (link_of h group) (link_of k group) (Some h) (Some k) 0 false false
+      (IsEndingBatch fronts.before.syncs)
 
 -- a group gave each object that it made, and no batch to come uses what it gave
 pub record LeavesNothing (s : Link) : Type 0 where

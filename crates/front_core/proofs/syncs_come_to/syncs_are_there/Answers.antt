@@ -43,7 +43,7 @@ pub returns-clause-made : goal.returns-clause-made
 returns-clause-made c f s group serials tables thread asked x serial may at =
     let fence = fence_there f s serials tables may.may.model may.place x serial may.syncs at in
     let stands : SyncStands f s serials tables may.may.model may.place serial fence.0 = may.syncs.stands x serial fence.0 at fence.1 in
-    record { of_group = stands.of_group; some = stands.some; number = omega (arith, stands.low, may.syncs.newest serial.index stands.of_group) }
+    record { of_group = stands.of_group; some = stands.some; number = omega (arith, stands.low, may.syncs.newest serial.index stands.of_group); low = stands.low }
 
 pub returns-clause-owns : goal.returns-clause-owns
 returns-clause-owns c f s holds = c.steps_may.ensures.owns f no_hands s holds

@@ -17,6 +17,7 @@ returns-in_default-clause-err g c = record {
   stopped = refl;
   history = c.prepared.ensures.items ∙ ap (λ (f : FrontModel). f.history) c.self.view_is;
   threads = ap (λ (f : FrontModel). f.threads) c.self.view_is;
+  group = ap (λ (f : FrontModel). (face f.core).group) c.self.view_is;
   owns = subst (λ (f : FrontModel). Owns (face f.core).objects (g.L.BackLink.state c.args.link.now)) (sym c.self.view_is)
       (c.histories_come_to.ensures.owns (face c.args.self.now.core) (g.L.BackLink.state c.args.link.now) c.requires.stands.stands.holds);
 }
@@ -51,11 +52,21 @@ returns-in-Ok-note-clause-ok g c =
       group = c.in-Ok-answer.ensures.group ∙ ap (λ (x : FrontModel). (face x.core).group) c.self.view_is;
     }
 
+pub returns-in-Err-clause-err : goal.returns-in-Err-clause-err
+returns-in-Err-clause-err g c = record {
+  stopped = refl;
+  history = c.prepared.ensures.items ∙ ap (λ (f : FrontModel). f.history) c.self.view_is;
+  threads = ap (λ (f : FrontModel). f.threads) c.self.view_is;
+  group = c.answer.ensures.group ∙ ap (λ (f : FrontModel). (face f.core).group) c.self.view_is;
+  owns = c.in-Err.ensures.err;
+}
+
 pub returns-in-Err-note-clause-err : goal.returns-in-Err-note-clause-err
 returns-in-Err-note-clause-err g c = record {
   stopped = refl;
   history = c.in-Err-note.ensures.err ∙ c.prepared.ensures.items ∙ ap (λ (f : FrontModel). f.history) c.self.view_is;
   threads = ap (λ (f : FrontModel). f.threads) c.self.view_is;
+  group = c.in-Ok-answer.ensures.group ∙ ap (λ (f : FrontModel). (face f.core).group) c.self.view_is;
   owns = c.histories_come_to.ensures.owns (face c.answer.new.self.core) (g.L.BackLink.state c.answer.new.link) c.in-Ok-answer.ensures.done.backs.holds;
 }
 

@@ -4,10 +4,10 @@ use Rattle.gl_model.specs.declared.state.GroupState.{GroupState}
 use Rattle.sync_serials.specs.Serials.{HasGoneOn}
 use Rattle.front_moves.specs.Core.{face}
 use Rattle.front_core.specs.Answering.{changes_contexts, reaches_syncs}
-use Rattle.front_core.specs.Economy.{HasTrueReason, may_wait, upload_due}
+use Rattle.front_core.specs.Economy.{IsNeededAnd, HasTrueReason, may_wait, upload_due}
 use Rattle.front_core.specs.Front.{IsServed}
 use Rattle.front_core.proofs.ContextsStay.{contexts_stay, indexes_stay}
-use Rattle.front_core.proofs.AtTheBack.{at_most, due_as, may_hand, of_objects, of_syncs, though_stopped}
+use Rattle.front_core.proofs.AtTheBack.{at_most, due_as, may_hand, of_objects, of_syncs, though_stopped, needed_map, of_needed_objects}
 use Rattle.front_core.proofs.GoingOn.{gone_on}
 use Rattle.front_core.proofs.Serving.{others_stay, others_wait, contexts_wait, polls_none, flushes_none, contexts_served, no_bytes, syncs_leave_contexts}
 use Rattle.front_core.proofs.share.Share.carry_out.Goals as goal
@@ -48,13 +48,15 @@ returns-in-Ok-other_call-clause-flushes g c =
 
 pub returns-in-Ok-other_call-clause-at_back : goal.returns-in-Ok-other_call-clause-at_back
 returns-in-Ok-other_call-clause-at_back g c =
-    may_hand (HasTrueReason (face c.args.self.now.core) c.args.self.now.state c.args.self.now.serials c.args.syncs.now c.args.thread c.args.call.now)
-    (of_objects (face c.args.self.now.core) c.args.self.now.state c.args.self.now.serials c.args.syncs.now c.args.thread c.args.call.now) c.in-Ok-other_call.ensures.at_back
+    let none : changes_contexts c.args.call.now ≡ false = search rules in
+    may_hand (IsNeededAnd c.args.syncs.now (HasTrueReason (face c.args.self.now.core) c.args.self.now.state c.args.self.now.serials c.args.syncs.now c.args.thread c.args.call.now))
+    (of_needed_objects (face c.args.self.now.core) c.args.self.now.state c.args.self.now.serials c.args.syncs.now c.args.thread c.args.call.now none) c.in-Ok-other_call.ensures.at_back
 
 pub returns-in-Err-other_call-clause-at_back : goal.returns-in-Err-other_call-clause-at_back
 returns-in-Err-other_call-clause-at_back g c =
-    may_hand (HasTrueReason (face c.args.self.now.core) c.args.self.now.state c.args.self.now.serials c.args.syncs.now c.args.thread c.args.call.now)
-    (of_objects (face c.args.self.now.core) c.args.self.now.state c.args.self.now.serials c.args.syncs.now c.args.thread c.args.call.now) (though_stopped c.other_call.ensures.at_back)
+    let none : changes_contexts c.args.call.now ≡ false = search rules in
+    may_hand (IsNeededAnd c.args.syncs.now (HasTrueReason (face c.args.self.now.core) c.args.self.now.state c.args.self.now.serials c.args.syncs.now c.args.thread c.args.call.now))
+    (of_needed_objects (face c.args.self.now.core) c.args.self.now.state c.args.self.now.serials c.args.syncs.now c.args.thread c.args.call.now none) (though_stopped c.other_call.ensures.at_back)
 
 pub returns-in-Ok-context_call-clause-done : goal.returns-in-Ok-context_call-clause-done
 returns-in-Ok-context_call-clause-done g c =
@@ -75,14 +77,14 @@ returns-in-Ok-context_call-clause-polls g c =
 pub returns-in-Ok-context_call-clause-at_back : goal.returns-in-Ok-context_call-clause-at_back
 returns-in-Ok-context_call-clause-at_back g c =
     at_most (upload_due c.args.self.now.state c.args.thread c.args.call.now) (may_wait c.args.call.now) (omega arith)
-    (may_hand (HasTrueReason (face c.args.self.now.core) c.args.self.now.state c.args.self.now.serials c.args.syncs.now c.args.thread c.args.call.now)
-    (of_objects (face c.args.self.now.core) c.args.self.now.state c.args.self.now.serials c.args.syncs.now c.args.thread c.args.call.now) c.in-Ok-context_call.ensures.at_back)
+    (may_hand (IsNeededAnd c.args.syncs.now (HasTrueReason (face c.args.self.now.core) c.args.self.now.state c.args.self.now.serials c.args.syncs.now c.args.thread c.args.call.now))
+    (needed_map c.args.syncs.now (of_objects (face c.args.self.now.core) c.args.self.now.state c.args.self.now.serials c.args.syncs.now c.args.thread c.args.call.now)) c.in-Ok-context_call.ensures.at_back)
 
 pub returns-in-Err-context_call-clause-at_back : goal.returns-in-Err-context_call-clause-at_back
 returns-in-Err-context_call-clause-at_back g c =
     at_most (upload_due c.args.self.now.state c.args.thread c.args.call.now) (may_wait c.args.call.now) (omega arith)
-    (may_hand (HasTrueReason (face c.args.self.now.core) c.args.self.now.state c.args.self.now.serials c.args.syncs.now c.args.thread c.args.call.now)
-    (of_objects (face c.args.self.now.core) c.args.self.now.state c.args.self.now.serials c.args.syncs.now c.args.thread c.args.call.now) (though_stopped c.context_call.ensures.at_back))
+    (may_hand (IsNeededAnd c.args.syncs.now (HasTrueReason (face c.args.self.now.core) c.args.self.now.state c.args.self.now.serials c.args.syncs.now c.args.thread c.args.call.now))
+    (needed_map c.args.syncs.now (of_objects (face c.args.self.now.core) c.args.self.now.state c.args.self.now.serials c.args.syncs.now c.args.thread c.args.call.now)) (though_stopped c.context_call.ensures.at_back))
 
 pub returns-in-Ok-clause-indexes : goal.returns-in-Ok-clause-indexes
 returns-in-Ok-clause-indexes g c =
@@ -97,12 +99,12 @@ pub returns-in-Ok-clause-at_back : goal.returns-in-Ok-clause-at_back
 returns-in-Ok-clause-at_back g c =
     let which : reaches_syncs c.args.call.now ≡ true = search rules in
     due_as (sym (no_bytes c.args.self.now.state c.args.thread c.args.call.now which))
-    (may_hand (HasTrueReason (face c.args.self.now.core) c.args.self.now.state c.args.self.now.serials c.args.syncs.now c.args.thread c.args.call.now)
-    (of_syncs (face c.args.self.now.core) c.args.self.now.state c.args.self.now.serials c.args.syncs.now c.args.thread c.args.call.now) c.in-Ok.ensures.at_back)
+    (may_hand (IsNeededAnd c.args.syncs.now (HasTrueReason (face c.args.self.now.core) c.args.self.now.state c.args.self.now.serials c.args.syncs.now c.args.thread c.args.call.now))
+    (needed_map c.args.syncs.now (of_syncs (face c.args.self.now.core) c.args.self.now.state c.args.self.now.serials c.args.syncs.now c.args.thread c.args.call.now)) c.in-Ok.ensures.at_back)
 
 pub returns-in-Err-clause-at_back : goal.returns-in-Err-clause-at_back
 returns-in-Err-clause-at_back g c =
     let which : reaches_syncs c.args.call.now ≡ true = search rules in
     due_as (sym (no_bytes c.args.self.now.state c.args.thread c.args.call.now which))
-    (may_hand (HasTrueReason (face c.args.self.now.core) c.args.self.now.state c.args.self.now.serials c.args.syncs.now c.args.thread c.args.call.now)
-    (of_syncs (face c.args.self.now.core) c.args.self.now.state c.args.self.now.serials c.args.syncs.now c.args.thread c.args.call.now) (though_stopped c.sync_call.ensures.at_back))
+    (may_hand (IsNeededAnd c.args.syncs.now (HasTrueReason (face c.args.self.now.core) c.args.self.now.state c.args.self.now.serials c.args.syncs.now c.args.thread c.args.call.now))
+    (needed_map c.args.syncs.now (of_syncs (face c.args.self.now.core) c.args.self.now.state c.args.self.now.serials c.args.syncs.now c.args.thread c.args.call.now)) (though_stopped c.sync_call.ensures.at_back))

@@ -1,7 +1,7 @@
 use Rattle.front_moves.specs.Core.{face}
 use Rattle.front_core.proofs.AnsweredCalls.{along_call}
 use Rattle.back_core.proofs.Frames.{no_batch}
-use Rattle.front_core.specs.Economy.{IsTrueReason}
+use Rattle.front_core.specs.Economy.{IsNeededAnd, IsTrueReason}
 use Rattle.front_core.proofs.AtTheBack.{may_hand}
 use Rattle.front_core.proofs.share.Share.context_call.Goals as goal
 
@@ -22,8 +22,8 @@ returns-in-MakeCurrent-clause-done g c =
 
 pub returns-in-CreateContext-clause-at_back : goal.returns-in-CreateContext-clause-at_back
 returns-in-CreateContext-clause-at_back g c =
-    may_hand (IsTrueReason (face c.args.self.now.core) c.args.self.now.state c.args.self.now.serials c.args.thread c.args.call.now) (no_batch (IsTrueReason (face c.args.self.now.core) c.args.self.now.state c.args.self.now.serials c.args.thread c.args.call.now)) c.create_context.ensures.at_back
+    may_hand (IsNeededAnd c.args.syncs.now (IsTrueReason (face c.args.self.now.core) c.args.self.now.state c.args.self.now.serials c.args.thread c.args.call.now)) (no_batch (IsNeededAnd c.args.syncs.now (IsTrueReason (face c.args.self.now.core) c.args.self.now.state c.args.self.now.serials c.args.thread c.args.call.now))) c.create_context.ensures.at_back
 
 pub returns-in-DestroyContext-clause-at_back : goal.returns-in-DestroyContext-clause-at_back
 returns-in-DestroyContext-clause-at_back g c =
-    may_hand (IsTrueReason (face c.args.self.now.core) c.args.self.now.state c.args.self.now.serials c.args.thread c.args.call.now) (no_batch (IsTrueReason (face c.args.self.now.core) c.args.self.now.state c.args.self.now.serials c.args.thread c.args.call.now)) c.destroy_context.ensures.at_back
+    may_hand (IsNeededAnd c.args.syncs.now (IsTrueReason (face c.args.self.now.core) c.args.self.now.state c.args.self.now.serials c.args.thread c.args.call.now)) (no_batch (IsNeededAnd c.args.syncs.now (IsTrueReason (face c.args.self.now.core) c.args.self.now.state c.args.self.now.serials c.args.thread c.args.call.now))) c.destroy_context.ensures.at_back

@@ -6,10 +6,10 @@ use Rattle.gl_calls.specs.declared.reply.Waited.{Waited}
 use Rattle.back_core.specs.Frame.{AtBack}
 use Rattle.front_moves.specs.Core.{face}
 use Rattle.sync_serials.specs.declared.serials.SyncName.TheVariants.{Egl}
-use Rattle.front_core.specs.Economy.{IsSyncReason, may_wait}
+use Rattle.front_core.specs.Economy.{IsNeededAnd, IsSyncReason, may_wait}
 use Rattle.front_core.specs.Front.{IsServed}
 use Rattle.front_core.specs.Polls.{Polls, answer_by}
-use Rattle.front_core.proofs.AtTheBack.{may_hand, though_stopped}
+use Rattle.front_core.proofs.AtTheBack.{may_hand, though_stopped, needed_map}
 use Rattle.front_core.proofs.Serving.{poll_reason}
 use Rattle.front_core.proofs.share.Share.egl_client_wait.Goals as goal
 
@@ -29,12 +29,12 @@ returns-in-Ok-clause-polls g c =
 
 pub returns-in-Ok-clause-at_back : goal.returns-in-Ok-clause-at_back
 returns-in-Ok-clause-at_back g c =
-    subst (λ (a : Call). AtBack (g.L.BackLink.state c.args.link.now) (g.L.BackLink.state c.wait_call.new.link) (g.L.BackLink.told c.args.link.now) (g.L.BackLink.told c.wait_call.new.link) 0 (may_wait a) false (IsSyncReason c.args.self.now.state c.args.self.now.serials c.args.syncs.now c.args.thread a)) (sym c.requires.which)
-    (may_hand (IsSyncReason c.args.self.now.state c.args.self.now.serials c.args.syncs.now c.args.thread (call.EglClientWaitSync c.args.number c.args.flush c.args.timeout))
-    (poll_reason c.args.self.now.state c.args.self.now.serials c.args.syncs.now c.args.thread (call.EglClientWaitSync c.args.number c.args.flush c.args.timeout) (Egl c.args.number) refl) c.in-Ok.ensures.at_back)
+    subst (λ (a : Call). AtBack (g.L.BackLink.state c.args.link.now) (g.L.BackLink.state c.wait_call.new.link) (g.L.BackLink.told c.args.link.now) (g.L.BackLink.told c.wait_call.new.link) 0 (may_wait a) false (IsNeededAnd c.args.syncs.now (IsSyncReason c.args.self.now.state c.args.self.now.serials c.args.syncs.now c.args.thread a))) (sym c.requires.which)
+    (may_hand (IsNeededAnd c.args.syncs.now (IsSyncReason c.args.self.now.state c.args.self.now.serials c.args.syncs.now c.args.thread (call.EglClientWaitSync c.args.number c.args.flush c.args.timeout)))
+    (needed_map c.args.syncs.now (poll_reason c.args.self.now.state c.args.self.now.serials c.args.syncs.now c.args.thread (call.EglClientWaitSync c.args.number c.args.flush c.args.timeout) (Egl c.args.number) refl)) c.in-Ok.ensures.at_back)
 
 pub returns-in-Err-clause-at_back : goal.returns-in-Err-clause-at_back
 returns-in-Err-clause-at_back g c =
-    subst (λ (a : Call). AtBack (g.L.BackLink.state c.args.link.now) (g.L.BackLink.state c.wait_call.new.link) (g.L.BackLink.told c.args.link.now) (g.L.BackLink.told c.wait_call.new.link) 0 (may_wait a) true (IsSyncReason c.args.self.now.state c.args.self.now.serials c.args.syncs.now c.args.thread a)) (sym c.requires.which)
-    (may_hand (IsSyncReason c.args.self.now.state c.args.self.now.serials c.args.syncs.now c.args.thread (call.EglClientWaitSync c.args.number c.args.flush c.args.timeout))
-    (poll_reason c.args.self.now.state c.args.self.now.serials c.args.syncs.now c.args.thread (call.EglClientWaitSync c.args.number c.args.flush c.args.timeout) (Egl c.args.number) refl) c.in-Err.ensures.at_back)
+    subst (λ (a : Call). AtBack (g.L.BackLink.state c.args.link.now) (g.L.BackLink.state c.wait_call.new.link) (g.L.BackLink.told c.args.link.now) (g.L.BackLink.told c.wait_call.new.link) 0 (may_wait a) true (IsNeededAnd c.args.syncs.now (IsSyncReason c.args.self.now.state c.args.self.now.serials c.args.syncs.now c.args.thread a))) (sym c.requires.which)
+    (may_hand (IsNeededAnd c.args.syncs.now (IsSyncReason c.args.self.now.state c.args.self.now.serials c.args.syncs.now c.args.thread (call.EglClientWaitSync c.args.number c.args.flush c.args.timeout)))
+    (needed_map c.args.syncs.now (poll_reason c.args.self.now.state c.args.self.now.serials c.args.syncs.now c.args.thread (call.EglClientWaitSync c.args.number c.args.flush c.args.timeout) (Egl c.args.number) refl)) c.in-Err.ensures.at_back)

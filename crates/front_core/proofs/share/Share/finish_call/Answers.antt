@@ -10,12 +10,13 @@ use Rattle.vk_types.specs.declared.ops.Node.{Node}
 use Rattle.sync_serials.specs.Serials.{HasGoneOn, newest_of}
 use Rattle.front_core.specs.Polls.{HasFinished}
 use Rattle.front_core.specs.Economy as economy
-use Rattle.front_core.specs.Economy.{IsSyncReason}
+use Rattle.front_core.specs.Economy.{IsNeededAnd, IsSyncReason}
 use Rattle.front_core.specs.Share.{MayCall, IsCarriedOut}
 use Rattle.front_core.specs.Front.{IsServed}
 use Rattle.front_core.proofs.GoingOn.{gone_on, last_stays}
 use Rattle.front_core.proofs.Switching.{may_still, carried_from}
 use Rattle.front_core.proofs.Serving.{gone_then, finished_on}
+use Rattle.front_core.proofs.AtTheBack.{needed_map}
 use Rattle.front_core.proofs.share.Share.finish_call.Goals as goal
 
 pub state_call-requires-clause-may : goal.state_call-requires-clause-may
@@ -61,12 +62,12 @@ returns-in-Ok-state_call-clause-flushes g c =
 
 pub returns-in-Ok-state_call-clause-at_back : goal.returns-in-Ok-state_call-clause-at_back
 returns-in-Ok-state_call-clause-at_back g c =
-    then_within 0 true false (IsSyncReason c.args.self.now.state c.args.self.now.serials c.args.syncs.now c.args.thread call.Finish) (omega arith) (λ on. refl) (λ on. refl) (λ on. on) (λ on. on)
-    (λ batch may. economy.finish refl may) (no_batch (IsSyncReason c.args.self.now.state c.args.self.now.serials c.args.syncs.now c.args.thread call.Finish))
+    then_within 0 true false (IsNeededAnd c.args.syncs.now (IsSyncReason c.args.self.now.state c.args.self.now.serials c.args.syncs.now c.args.thread call.Finish)) (omega arith) (λ on. refl) (λ on. refl) (λ on. on) (λ on. on)
+    (needed_map c.args.syncs.now (λ batch may. economy.finish refl may)) (no_batch (IsNeededAnd c.args.syncs.now (IsSyncReason c.args.self.now.state c.args.self.now.serials c.args.syncs.now c.args.thread call.Finish)))
     c.in-Ok.ensures.at_back c.in-Ok-state_call.ensures.at_back
 
 pub returns-in-Err-state_call-clause-at_back : goal.returns-in-Err-state_call-clause-at_back
 returns-in-Err-state_call-clause-at_back g c =
-    then_within 0 true true (IsSyncReason c.args.self.now.state c.args.self.now.serials c.args.syncs.now c.args.thread call.Finish) (omega arith) (λ on. refl) (λ on. refl) (λ on. refl) (λ on. refl)
-    (λ batch may. economy.finish refl may) (no_batch (IsSyncReason c.args.self.now.state c.args.self.now.serials c.args.syncs.now c.args.thread call.Finish))
+    then_within 0 true true (IsNeededAnd c.args.syncs.now (IsSyncReason c.args.self.now.state c.args.self.now.serials c.args.syncs.now c.args.thread call.Finish)) (omega arith) (λ on. refl) (λ on. refl) (λ on. refl) (λ on. refl)
+    (needed_map c.args.syncs.now (λ batch may. economy.finish refl may)) (no_batch (IsNeededAnd c.args.syncs.now (IsSyncReason c.args.self.now.state c.args.self.now.serials c.args.syncs.now c.args.thread call.Finish)))
     c.in-Ok.ensures.at_back c.state_call.ensures.at_back

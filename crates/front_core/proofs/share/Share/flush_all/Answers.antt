@@ -1,22 +1,17 @@
 use Rattle.std.proofs.Common.{◌≡◌, ◌≢◌, ◌≤◌, ◌<◌, ◌+◌, ◌*◌, ℕ, true, false, refl, sym, subst, ◌∙◌, ap, arith, inl, inr}
 use Rattle.std.specs.Prelude.{◌⊎◌}
 use Rattle.std.proofs.lemmas.Bool.{cases_eq}
-use Rattle.vk_types.specs.declared.batches.Batch.{Batch}
-use Rattle.vk_types.specs.declared.batches.Reason.TheVariants as reason
 use Rattle.back_core.specs.Needs.{IsOfGroup}
 use Rattle.back_core.proofs.Frames.{then_within}
 use Rattle.front_moves.specs.Core.{face}
-use Rattle.front_moves.specs.Reasons.{IsFlushOf, IsEnding}
 use Rattle.sync_serials.specs.Serials.{HasGoneOn, newest_of}
+use Rattle.front_core.specs.Economy.{IsEndingBatch}
 use Rattle.front_core.specs.Polls.{HasFlushedAll, FlushedStay}
-use Rattle.front_core.proofs.AtTheBack.{nothing_done}
+use Rattle.front_core.proofs.AtTheBack.{nothing_done, flush_ends}
 use Rattle.front_core.proofs.GoingOn.{gone_on, stays_put, goes_nowhere}
 use Rattle.front_core.proofs.Serving.{gone_then}
 use Rattle.front_core.proofs.SyncMoves.{stays_then}
 use Rattle.front_core.proofs.share.Share.flush_all.Goals as goal
-
-ends : (f : _) (index : ℕ) (batch : Batch) → IsFlushOf f index reason.End batch → IsEnding batch
-ends f index batch is = is.for_reason
 
 pub loop-place-init : goal.loop-place-init
 loop-place-init g c = record {
@@ -24,7 +19,7 @@ loop-place-init g c = record {
   gone = goes_nowhere (face c.args.self.now.core) (g.L.BackLink.state c.args.link.now);
   flushed = λ i low high. let bad : ⊥ = omega (arith, low, high) in absurd bad;
   faults = omega arith;
-  at_back = nothing_done (g.L.BackLink.state c.args.link.now) (g.L.BackLink.told c.args.link.now) 0 false false IsEnding;
+  at_back = nothing_done (g.L.BackLink.state c.args.link.now) (g.L.BackLink.told c.args.link.now) 0 false false (IsEndingBatch c.args.syncs.now);
 }
 
 pub flush_context-requires-clause-holds : goal.flush_context-requires-clause-holds
@@ -65,7 +60,7 @@ loop-place-preserved g c =
       gone = gone_then f h d s u t c.loop-place.invariant.gone step;
       flushed = λ i low high. by_place c.args.syncs.now i index c.in-Ok.ensures.still c.in-Ok.ensures.flushed (λ below. c.loop-place.invariant.flushed i low (omega (arith, below, here))) (omega (arith, high, here)) (cases_eq i index);
       faults = let low = c.loop-place.invariant.faults in let later = c.flush_context.ensures.cause.later in omega (arith, low, later);
-      at_back = then_within 0 false false IsEnding (omega arith) (λ on. on) (λ on. on) (λ on. on) (λ on. on) (λ batch may. may) (ends h index) c.loop-place.invariant.at_back c.in-Ok.ensures.at_back;
+      at_back = then_within 0 false false (IsEndingBatch c.args.syncs.now) (omega arith) (λ on. on) (λ on. on) (λ on. on) (λ on. on) (λ batch may. may) (flush_ends h c.args.syncs.now index) c.loop-place.invariant.at_back c.in-Ok.ensures.at_back;
     }
   where
     by_place : {h d : _} (tables : _) (i index : ℕ) → FlushedStay h d → HasFlushedAll d tables index → (i < index → HasFlushedAll h tables i) → i ≤ index → (i ≡ index) ⊎ (i ≡ index → ⊥) → HasFlushedAll d tables i
@@ -77,4 +72,4 @@ returns-clause-flushed g c = λ i own. let past = c.loop-place-test.false in c.l
 
 pub returns-in-Err-clause-at_back : goal.returns-in-Err-clause-at_back
 returns-in-Err-clause-at_back g c =
-    then_within 0 false true IsEnding (omega arith) (λ on. on) (λ on. on) (λ on. refl) (λ on. on) (λ batch may. may) (ends (face c.loop-place.self.core) c.new-index.result) c.loop-place.invariant.at_back c.in-Err.ensures.at_back
+    then_within 0 false true (IsEndingBatch c.args.syncs.now) (omega arith) (λ on. on) (λ on. on) (λ on. refl) (λ on. on) (λ batch may. may) (flush_ends (face c.loop-place.self.core) c.args.syncs.now c.new-index.result) c.loop-place.invariant.at_back c.in-Err.ensures.at_back

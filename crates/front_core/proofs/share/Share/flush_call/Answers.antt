@@ -6,12 +6,13 @@ use Rattle.back_core.proofs.Frames.{then_within, no_batch}
 use Rattle.front_moves.specs.Core.{face}
 use Rattle.sync_serials.specs.Serials.{HasGoneOn}
 use Rattle.front_core.specs.Economy as economy
-use Rattle.front_core.specs.Economy.{IsSyncReason}
+use Rattle.front_core.specs.Economy.{IsNeededAnd, IsSyncReason}
 use Rattle.front_core.specs.Share.{MayCall, IsCarriedOut, current_index}
 use Rattle.front_core.specs.Front.{IsServed}
 use Rattle.front_core.proofs.GoingOn.{gone_on}
 use Rattle.front_core.proofs.Switching.{may_still, carried_from, flushed_still}
 use Rattle.front_core.proofs.Serving.{gone_then}
+use Rattle.front_core.proofs.AtTheBack.{needed_map}
 use Rattle.front_core.proofs.share.Share.flush_call.Goals as goal
 
 pub state_call-requires-clause-may : goal.state_call-requires-clause-may
@@ -44,12 +45,12 @@ returns-in-Ok-state_call-clause-flushes g c =
 
 pub returns-in-Ok-state_call-clause-at_back : goal.returns-in-Ok-state_call-clause-at_back
 returns-in-Ok-state_call-clause-at_back g c =
-    then_within 0 false false (IsSyncReason c.args.self.now.state c.args.self.now.serials c.args.syncs.now c.args.thread call.Flush) (omega arith) (λ on. on) (λ on. on) (λ on. on) (λ on. on)
-    (λ batch may. economy.flush refl may) (no_batch (IsSyncReason c.args.self.now.state c.args.self.now.serials c.args.syncs.now c.args.thread call.Flush))
+    then_within 0 false false (IsNeededAnd c.args.syncs.now (IsSyncReason c.args.self.now.state c.args.self.now.serials c.args.syncs.now c.args.thread call.Flush)) (omega arith) (λ on. on) (λ on. on) (λ on. on) (λ on. on)
+    (needed_map c.args.syncs.now (λ batch may. economy.flush refl may)) (no_batch (IsNeededAnd c.args.syncs.now (IsSyncReason c.args.self.now.state c.args.self.now.serials c.args.syncs.now c.args.thread call.Flush)))
     c.in-Ok.ensures.at_back c.in-Ok-state_call.ensures.at_back
 
 pub returns-in-Err-state_call-clause-at_back : goal.returns-in-Err-state_call-clause-at_back
 returns-in-Err-state_call-clause-at_back g c =
-    then_within 0 false true (IsSyncReason c.args.self.now.state c.args.self.now.serials c.args.syncs.now c.args.thread call.Flush) (omega arith) (λ on. on) (λ on. on) (λ on. refl) (λ on. refl)
-    (λ batch may. economy.flush refl may) (no_batch (IsSyncReason c.args.self.now.state c.args.self.now.serials c.args.syncs.now c.args.thread call.Flush))
+    then_within 0 false true (IsNeededAnd c.args.syncs.now (IsSyncReason c.args.self.now.state c.args.self.now.serials c.args.syncs.now c.args.thread call.Flush)) (omega arith) (λ on. on) (λ on. on) (λ on. refl) (λ on. refl)
+    (needed_map c.args.syncs.now (λ batch may. economy.flush refl may)) (no_batch (IsNeededAnd c.args.syncs.now (IsSyncReason c.args.self.now.state c.args.self.now.serials c.args.syncs.now c.args.thread call.Flush)))
     c.in-Ok.ensures.at_back c.state_call.ensures.at_back

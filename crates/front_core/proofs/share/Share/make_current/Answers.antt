@@ -12,8 +12,8 @@ use Rattle.front_core.specs.Polls.{HasFlushedAll}
 use Rattle.front_core.proofs.GoingOn.{gone_on}
 use Rattle.front_core.proofs.Switching.{may_still, carried_from, flushed_still}
 use Rattle.back_core.proofs.Frames.{then_within, no_batch}
-use Rattle.front_core.specs.Economy.{IsSwitch, IsTrueReason}
-use Rattle.front_core.proofs.AtTheBack.{switch_is_true}
+use Rattle.front_core.specs.Economy.{IsNeededAnd, IsSwitch, IsTrueReason}
+use Rattle.front_core.proofs.AtTheBack.{switch_is_true, may_hand, needed_map}
 use Rattle.front_core.proofs.share.Share.make_current.Goals as goal
 
 pub state_call-requires-clause-may : goal.state_call-requires-clause-may
@@ -57,10 +57,14 @@ returns-in-Ok-state_call-clause-left g c =
 
 pub returns-in-Ok-state_call-clause-at_back : goal.returns-in-Ok-state_call-clause-at_back
 returns-in-Ok-state_call-clause-at_back g c =
-    then_within 0 false false (IsTrueReason (face c.args.self.now.core) c.args.self.now.state c.args.self.now.serials c.args.thread (call.MakeCurrent c.args.number)) (omega arith) (λ on. on) (λ on. on) (λ on. on) (λ on. on) (λ batch is. switch_is_true (face c.args.self.now.core) c.args.self.now.state c.args.self.now.serials c.args.thread c.args.number batch (subst (λ n. IsSwitch c.args.self.now.state c.args.self.now.serials c.args.thread n batch) c.from.ensures is)) (no_batch (IsTrueReason (face c.args.self.now.core) c.args.self.now.state c.args.self.now.serials c.args.thread (call.MakeCurrent c.args.number)))
+    then_within 0 false false (IsNeededAnd c.args.syncs.now (IsTrueReason (face c.args.self.now.core) c.args.self.now.state c.args.self.now.serials c.args.thread (call.MakeCurrent c.args.number))) (omega arith) (λ on. on) (λ on. on) (λ on. on) (λ on. on) 
+    (needed_map c.args.syncs.now (λ batch is. switch_is_true (face c.args.self.now.core) c.args.self.now.state c.args.self.now.serials c.args.thread c.args.number batch (subst (λ n. IsSwitch c.args.self.now.state c.args.self.now.serials c.args.thread n batch) c.from.ensures is)))
+    (no_batch (IsNeededAnd c.args.syncs.now (IsTrueReason (face c.args.self.now.core) c.args.self.now.state c.args.self.now.serials c.args.thread (call.MakeCurrent c.args.number))))
     c.in-Ok.ensures.at_back c.in-Ok-state_call.ensures.at_back
 
 pub returns-in-Ok-clause-at_back : goal.returns-in-Ok-clause-at_back
 returns-in-Ok-clause-at_back g c =
-    then_within 0 false true (IsTrueReason (face c.args.self.now.core) c.args.self.now.state c.args.self.now.serials c.args.thread (call.MakeCurrent c.args.number)) (omega arith) (λ on. on) (λ on. on) (λ on. refl) (λ on. refl) (λ batch is. switch_is_true (face c.args.self.now.core) c.args.self.now.state c.args.self.now.serials c.args.thread c.args.number batch (subst (λ n. IsSwitch c.args.self.now.state c.args.self.now.serials c.args.thread n batch) c.from.ensures is)) (no_batch (IsTrueReason (face c.args.self.now.core) c.args.self.now.state c.args.self.now.serials c.args.thread (call.MakeCurrent c.args.number)))
+    then_within 0 false true (IsNeededAnd c.args.syncs.now (IsTrueReason (face c.args.self.now.core) c.args.self.now.state c.args.self.now.serials c.args.thread (call.MakeCurrent c.args.number))) (omega arith) (λ on. on) (λ on. on) (λ on. refl) (λ on. refl) 
+    (needed_map c.args.syncs.now (λ batch is. switch_is_true (face c.args.self.now.core) c.args.self.now.state c.args.self.now.serials c.args.thread c.args.number batch (subst (λ n. IsSwitch c.args.self.now.state c.args.self.now.serials c.args.thread n batch) c.from.ensures is)))
+    (no_batch (IsNeededAnd c.args.syncs.now (IsTrueReason (face c.args.self.now.core) c.args.self.now.state c.args.self.now.serials c.args.thread (call.MakeCurrent c.args.number))))
     c.in-Ok.ensures.at_back c.state_call.ensures.at_back

@@ -3,8 +3,9 @@ use Rattle.std.proofs.lemmas.Bool.{false≢true}
 use Rattle.back_core.proofs.Frames.{within, then_within, no_batch}
 use Rattle.front_moves.specs.Core.{face}
 use Rattle.sync_serials.specs.Serials.{serial_at}
-use Rattle.front_core.specs.Economy.{IsForPoll}
+use Rattle.front_core.specs.Economy.{IsNeededAnd, IsForPoll}
 use Rattle.front_core.proofs.SyncMoves.{stays_then, found_signalled, found_unsignalled, for_poll}
+use Rattle.front_core.proofs.AtTheBack.{needed_map}
 use Rattle.front_core.proofs.share.Share.poll.Goals as goal
 
 pub returns-then-serial-completed-clause-polled : goal.returns-then-serial-completed-clause-polled
@@ -16,8 +17,8 @@ returns-then-serial-completed-clause-polled g c =
 
 pub returns-then-serial-completed-clause-at_back : goal.returns-then-serial-completed-clause-at_back
 returns-then-serial-completed-clause-at_back g c =
-    within 0 (not (c.args.timeout == 0)) false (IsForPoll c.args.self.now.state c.args.self.now.serials c.args.syncs.now c.args.thread c.args.name c.args.flush c.args.timeout) (omega arith)
-    (λ on. absurd (false≢true on)) (λ on. on) (no_batch (IsForPoll c.args.self.now.state c.args.self.now.serials c.args.syncs.now c.args.thread c.args.name c.args.flush c.args.timeout)) c.completed-completed.ensures.at_back
+    within 0 (not (c.args.timeout == 0)) false (IsNeededAnd c.args.syncs.now (IsForPoll c.args.self.now.state c.args.self.now.serials c.args.syncs.now c.args.thread c.args.name c.args.flush c.args.timeout)) (omega arith)
+    (λ on. absurd (false≢true on)) (λ on. on) (no_batch (IsNeededAnd c.args.syncs.now (IsForPoll c.args.self.now.state c.args.self.now.serials c.args.syncs.now c.args.thread c.args.name c.args.flush c.args.timeout))) c.completed-completed.ensures.at_back
 
 pub unsignalled-requires-clause-made : goal.unsignalled-requires-clause-made
 unsignalled-requires-clause-made g c =
@@ -40,17 +41,17 @@ returns-in-Ok-clause-polled g c =
 pub returns-in-Ok-clause-at_back : goal.returns-in-Ok-clause-at_back
 returns-in-Ok-clause-at_back g c =
     let at : serial_at c.args.syncs.now c.args.name ≡ Some c.in-Some.serial = search rules in
-    then_within 0 (not (c.args.timeout == 0)) false (IsForPoll c.args.self.now.state c.args.self.now.serials c.args.syncs.now c.args.thread c.args.name c.args.flush c.args.timeout) (omega arith)
+    then_within 0 (not (c.args.timeout == 0)) false (IsNeededAnd c.args.syncs.now (IsForPoll c.args.self.now.state c.args.self.now.serials c.args.syncs.now c.args.thread c.args.name c.args.flush c.args.timeout)) (omega arith)
     (λ on. absurd (false≢true on)) (λ on. on) (λ on. on) (λ on. on)
-    (no_batch (IsForPoll c.args.self.now.state c.args.self.now.serials c.args.syncs.now c.args.thread c.args.name c.args.flush c.args.timeout))
-    (for_poll c.args.self.now.state c.args.self.now.serials c.args.syncs.now c.args.thread c.args.name c.in-Some.serial c.args.flush c.args.timeout at)
+    (no_batch (IsNeededAnd c.args.syncs.now (IsForPoll c.args.self.now.state c.args.self.now.serials c.args.syncs.now c.args.thread c.args.name c.args.flush c.args.timeout)))
+    (needed_map c.args.syncs.now (for_poll c.args.self.now.state c.args.self.now.serials c.args.syncs.now c.args.thread c.args.name c.in-Some.serial c.args.flush c.args.timeout at))
     c.completed-completed.ensures.at_back c.in-Ok.ensures.at_back
 
 pub returns-in-Err-clause-at_back : goal.returns-in-Err-clause-at_back
 returns-in-Err-clause-at_back g c =
     let at : serial_at c.args.syncs.now c.args.name ≡ Some c.in-Some.serial = search rules in
-    then_within 0 (not (c.args.timeout == 0)) true (IsForPoll c.args.self.now.state c.args.self.now.serials c.args.syncs.now c.args.thread c.args.name c.args.flush c.args.timeout) (omega arith)
+    then_within 0 (not (c.args.timeout == 0)) true (IsNeededAnd c.args.syncs.now (IsForPoll c.args.self.now.state c.args.self.now.serials c.args.syncs.now c.args.thread c.args.name c.args.flush c.args.timeout)) (omega arith)
     (λ on. absurd (false≢true on)) (λ on. on) (λ on. refl) (λ on. refl)
-    (no_batch (IsForPoll c.args.self.now.state c.args.self.now.serials c.args.syncs.now c.args.thread c.args.name c.args.flush c.args.timeout))
-    (for_poll c.args.self.now.state c.args.self.now.serials c.args.syncs.now c.args.thread c.args.name c.in-Some.serial c.args.flush c.args.timeout at)
+    (no_batch (IsNeededAnd c.args.syncs.now (IsForPoll c.args.self.now.state c.args.self.now.serials c.args.syncs.now c.args.thread c.args.name c.args.flush c.args.timeout)))
+    (needed_map c.args.syncs.now (for_poll c.args.self.now.state c.args.self.now.serials c.args.syncs.now c.args.thread c.args.name c.in-Some.serial c.args.flush c.args.timeout at))
     c.completed-completed.ensures.at_back c.unsignalled.ensures.at_back

@@ -5,29 +5,29 @@ use Rattle.gl_calls.specs.declared.call.Call.{Call}
 use Rattle.gl_calls.specs.declared.call.Call.TheVariants as call
 use Rattle.back_core.proofs.Frames.{within, no_batch}
 use Rattle.front_moves.specs.Core.{face}
-use Rattle.front_core.specs.Economy.{IsSyncReason, may_wait}
+use Rattle.front_core.specs.Economy.{IsNeededAnd, IsSyncReason, may_wait}
 use Rattle.front_core.specs.Front.{MayServe, IsServed}
 use Rattle.front_core.proofs.share.Share.sync_call.Goals as goal
 
 pub returns-in-FenceSync-clause-at_back : goal.returns-in-FenceSync-clause-at_back
 returns-in-FenceSync-clause-at_back g c =
-    within 0 (may_wait c.args.call.now) (is_err c.make_sync.result) (IsSyncReason c.args.self.now.state c.args.self.now.serials c.args.syncs.now c.args.thread c.args.call.now) (omega arith)
-    (λ on. absurd (false≢true on)) (λ on. on) (no_batch (IsSyncReason c.args.self.now.state c.args.self.now.serials c.args.syncs.now c.args.thread c.args.call.now)) c.make_sync.ensures.at_back
+    within 0 (may_wait c.args.call.now) (is_err c.make_sync.result) (IsNeededAnd c.args.syncs.now (IsSyncReason c.args.self.now.state c.args.self.now.serials c.args.syncs.now c.args.thread c.args.call.now)) (omega arith)
+    (λ on. absurd (false≢true on)) (λ on. on) (no_batch (IsNeededAnd c.args.syncs.now (IsSyncReason c.args.self.now.state c.args.self.now.serials c.args.syncs.now c.args.thread c.args.call.now))) c.make_sync.ensures.at_back
 
 pub returns-in-CreateSync-clause-at_back : goal.returns-in-CreateSync-clause-at_back
 returns-in-CreateSync-clause-at_back g c =
-    within 0 (may_wait c.args.call.now) (is_err c.make_sync-in-CreateSync.result) (IsSyncReason c.args.self.now.state c.args.self.now.serials c.args.syncs.now c.args.thread c.args.call.now) (omega arith)
-    (λ on. absurd (false≢true on)) (λ on. on) (no_batch (IsSyncReason c.args.self.now.state c.args.self.now.serials c.args.syncs.now c.args.thread c.args.call.now)) c.make_sync-in-CreateSync.ensures.at_back
+    within 0 (may_wait c.args.call.now) (is_err c.make_sync-in-CreateSync.result) (IsNeededAnd c.args.syncs.now (IsSyncReason c.args.self.now.state c.args.self.now.serials c.args.syncs.now c.args.thread c.args.call.now)) (omega arith)
+    (λ on. absurd (false≢true on)) (λ on. on) (no_batch (IsNeededAnd c.args.syncs.now (IsSyncReason c.args.self.now.state c.args.self.now.serials c.args.syncs.now c.args.thread c.args.call.now))) c.make_sync-in-CreateSync.ensures.at_back
 
 pub returns-in-DeleteSync-clause-at_back : goal.returns-in-DeleteSync-clause-at_back
 returns-in-DeleteSync-clause-at_back g c =
-    within 0 (may_wait c.args.call.now) (is_err c.end_sync.result) (IsSyncReason c.args.self.now.state c.args.self.now.serials c.args.syncs.now c.args.thread c.args.call.now) (omega arith)
-    (λ on. absurd (false≢true on)) (λ on. on) (no_batch (IsSyncReason c.args.self.now.state c.args.self.now.serials c.args.syncs.now c.args.thread c.args.call.now)) c.end_sync.ensures.at_back
+    within 0 (may_wait c.args.call.now) (is_err c.end_sync.result) (IsNeededAnd c.args.syncs.now (IsSyncReason c.args.self.now.state c.args.self.now.serials c.args.syncs.now c.args.thread c.args.call.now)) (omega arith)
+    (λ on. absurd (false≢true on)) (λ on. on) (no_batch (IsNeededAnd c.args.syncs.now (IsSyncReason c.args.self.now.state c.args.self.now.serials c.args.syncs.now c.args.thread c.args.call.now))) c.end_sync.ensures.at_back
 
 pub returns-in-DestroySync-clause-at_back : goal.returns-in-DestroySync-clause-at_back
 returns-in-DestroySync-clause-at_back g c =
-    within 0 (may_wait c.args.call.now) (is_err c.end_sync-in-DestroySync.result) (IsSyncReason c.args.self.now.state c.args.self.now.serials c.args.syncs.now c.args.thread c.args.call.now) (omega arith)
-    (λ on. absurd (false≢true on)) (λ on. on) (no_batch (IsSyncReason c.args.self.now.state c.args.self.now.serials c.args.syncs.now c.args.thread c.args.call.now)) c.end_sync-in-DestroySync.ensures.at_back
+    within 0 (may_wait c.args.call.now) (is_err c.end_sync-in-DestroySync.result) (IsNeededAnd c.args.syncs.now (IsSyncReason c.args.self.now.state c.args.self.now.serials c.args.syncs.now c.args.thread c.args.call.now)) (omega arith)
+    (λ on. absurd (false≢true on)) (λ on. on) (no_batch (IsNeededAnd c.args.syncs.now (IsSyncReason c.args.self.now.state c.args.self.now.serials c.args.syncs.now c.args.thread c.args.call.now))) c.end_sync-in-DestroySync.ensures.at_back
 
 pub flush_call-requires-clause-may : goal.flush_call-requires-clause-may
 flush_call-requires-clause-may g c =

@@ -6,11 +6,12 @@ use Rattle.gl_model.specs.declared.state.GroupState.{GroupState}
 use Rattle.back_core.proofs.Frames.{then_within, no_batch, within}
 use Rattle.front_moves.specs.Core.{face}
 use Rattle.sync_serials.specs.Serials.{HasGoneOn}
-use Rattle.front_core.specs.Economy.{IsForPoll}
+use Rattle.front_core.specs.Economy.{IsNeededAnd, IsForPoll}
 use Rattle.front_core.specs.Front.{IsServed}
 use Rattle.front_core.specs.Polls.{IsPoll, answer_by, timeout_of}
 use Rattle.front_core.proofs.GoingOn.{gone_on}
 use Rattle.front_core.proofs.Serving.{gone_then, poll_from, made_still, poll_batches}
+use Rattle.front_core.proofs.AtTheBack.{needed_map}
 use Rattle.front_core.proofs.share.Share.wait_call.Goals as goal
 
 pub poll-requires-clause-there : goal.poll-requires-clause-there
@@ -21,7 +22,7 @@ pub poll-requires-clause-made : goal.poll-requires-clause-made
 poll-requires-clause-made g c =
     let first : HasGoneOn (face c.args.self.now.core) (face c.change_by_wait.new.self.core) (g.L.BackLink.state c.args.link.now) (g.L.BackLink.state c.change_by_wait.new.link)
     = gone_on c.args.self.now.core c.change_by_wait.new.self.core c.requires.may.may.backs.holds c.in-Ok.ensures.changed.backs.holds c.change_by_wait.ensures.group c.in-Ok.ensures.at_back in
-    λ serial at. made_still (face c.args.self.now.core) (face c.change_by_wait.new.self.core) (g.L.BackLink.state c.args.link.now) (g.L.BackLink.state c.change_by_wait.new.link) serial first
+    λ serial at. made_still (face c.args.self.now.core) (face c.change_by_wait.new.self.core) (g.L.BackLink.state c.args.link.now) (g.L.BackLink.state c.change_by_wait.new.link) c.args.syncs.now serial first
     (c.syncs_are_there.ensures.made (face c.args.self.now.core) (g.L.BackLink.state c.args.link.now) c.args.self.now.state c.args.self.now.serials c.args.syncs.now c.args.thread c.args.call.now c.args.name serial c.requires.may at)
 
 pub returns-in-Ok-poll-clause-polled : goal.returns-in-Ok-poll-clause-polled
@@ -50,22 +51,22 @@ returns-in-Ok-poll-clause-done g c =
 
 pub returns-in-Ok-poll-clause-at_back : goal.returns-in-Ok-poll-clause-at_back
 returns-in-Ok-poll-clause-at_back g c =
-    then_within 0 (not (c.args.timeout == 0)) false (IsForPoll c.args.self.now.state c.args.self.now.serials c.args.syncs.now c.args.thread c.args.name c.args.flush c.args.timeout) (omega arith)
+    then_within 0 (not (c.args.timeout == 0)) false (IsNeededAnd c.args.syncs.now (IsForPoll c.args.self.now.state c.args.self.now.serials c.args.syncs.now c.args.thread c.args.name c.args.flush c.args.timeout)) (omega arith)
     (λ on. absurd (false≢true on)) (λ on. on) (λ on. on) (λ on. on)
-    (no_batch (IsForPoll c.args.self.now.state c.args.self.now.serials c.args.syncs.now c.args.thread c.args.name c.args.flush c.args.timeout))
-    (poll_batches c.args.self.now.state c.change_by_wait.new.self.state c.args.self.now.serials c.change_by_wait.new.self.serials c.args.syncs.now c.args.thread c.args.call.now c.args.name c.args.flush c.args.timeout c.requires.asks c.in-Ok.ensures.changed.state c.change_by_wait.ensures.serials)
+    (no_batch (IsNeededAnd c.args.syncs.now (IsForPoll c.args.self.now.state c.args.self.now.serials c.args.syncs.now c.args.thread c.args.name c.args.flush c.args.timeout)))
+    (needed_map c.args.syncs.now (poll_batches c.args.self.now.state c.change_by_wait.new.self.state c.args.self.now.serials c.change_by_wait.new.self.serials c.args.syncs.now c.args.thread c.args.call.now c.args.name c.args.flush c.args.timeout c.requires.asks c.in-Ok.ensures.changed.state c.change_by_wait.ensures.serials))
     c.in-Ok.ensures.at_back c.in-Ok-poll.ensures.at_back
 
 pub returns-in-Err-poll-clause-at_back : goal.returns-in-Err-poll-clause-at_back
 returns-in-Err-poll-clause-at_back g c =
-    then_within 0 (not (c.args.timeout == 0)) true (IsForPoll c.args.self.now.state c.args.self.now.serials c.args.syncs.now c.args.thread c.args.name c.args.flush c.args.timeout) (omega arith)
+    then_within 0 (not (c.args.timeout == 0)) true (IsNeededAnd c.args.syncs.now (IsForPoll c.args.self.now.state c.args.self.now.serials c.args.syncs.now c.args.thread c.args.name c.args.flush c.args.timeout)) (omega arith)
     (λ on. absurd (false≢true on)) (λ on. on) (λ on. refl) (λ on. refl)
-    (no_batch (IsForPoll c.args.self.now.state c.args.self.now.serials c.args.syncs.now c.args.thread c.args.name c.args.flush c.args.timeout))
-    (poll_batches c.args.self.now.state c.change_by_wait.new.self.state c.args.self.now.serials c.change_by_wait.new.self.serials c.args.syncs.now c.args.thread c.args.call.now c.args.name c.args.flush c.args.timeout c.requires.asks c.in-Ok.ensures.changed.state c.change_by_wait.ensures.serials)
+    (no_batch (IsNeededAnd c.args.syncs.now (IsForPoll c.args.self.now.state c.args.self.now.serials c.args.syncs.now c.args.thread c.args.name c.args.flush c.args.timeout)))
+    (needed_map c.args.syncs.now (poll_batches c.args.self.now.state c.change_by_wait.new.self.state c.args.self.now.serials c.change_by_wait.new.self.serials c.args.syncs.now c.args.thread c.args.call.now c.args.name c.args.flush c.args.timeout c.requires.asks c.in-Ok.ensures.changed.state c.change_by_wait.ensures.serials))
     c.in-Ok.ensures.at_back c.poll.ensures.at_back
 
 pub returns-in-Err-clause-at_back : goal.returns-in-Err-clause-at_back
 returns-in-Err-clause-at_back g c =
-    within 0 (not (c.args.timeout == 0)) true (IsForPoll c.args.self.now.state c.args.self.now.serials c.args.syncs.now c.args.thread c.args.name c.args.flush c.args.timeout) (omega arith)
-    (λ on. absurd (false≢true on)) (λ on. refl) (no_batch (IsForPoll c.args.self.now.state c.args.self.now.serials c.args.syncs.now c.args.thread c.args.name c.args.flush c.args.timeout))
+    within 0 (not (c.args.timeout == 0)) true (IsNeededAnd c.args.syncs.now (IsForPoll c.args.self.now.state c.args.self.now.serials c.args.syncs.now c.args.thread c.args.name c.args.flush c.args.timeout)) (omega arith)
+    (λ on. absurd (false≢true on)) (λ on. refl) (no_batch (IsNeededAnd c.args.syncs.now (IsForPoll c.args.self.now.state c.args.self.now.serials c.args.syncs.now c.args.thread c.args.name c.args.flush c.args.timeout)))
     c.in-Err.ensures.at_back

@@ -7,10 +7,10 @@ use Rattle.back_core.proofs.Frames.{then_within, no_batch}
 use Rattle.front_moves.specs.Core.{face}
 use Rattle.sync_serials.specs.declared.serials.SyncName.TheVariants.{Gl}
 use Rattle.sync_serials.specs.Serials.{HasGoneOn, serial_at}
-use Rattle.front_core.specs.Economy.{IsSyncReason}
+use Rattle.front_core.specs.Economy.{IsNeededAnd, IsSyncReason}
 use Rattle.front_core.specs.Share.{MayCall, IsCarriedOut}
 use Rattle.front_core.specs.Front.{IsServed}
-use Rattle.front_core.proofs.AtTheBack.{may_hand}
+use Rattle.front_core.proofs.AtTheBack.{may_hand, needed_for_sync}
 use Rattle.front_core.proofs.GoingOn.{gone_on}
 use Rattle.front_core.proofs.Switching.{may_still, carried_from}
 use Rattle.front_core.proofs.Serving.{gone_then, wait_sync_stays, wait_sync_of_state, wait_sync_flushes, wait_sync_reason}
@@ -71,22 +71,25 @@ returns-in-Ok-state_call-clause-flushes g c =
 pub returns-in-Ok-state_call-clause-at_back : goal.returns-in-Ok-state_call-clause-at_back
 returns-in-Ok-state_call-clause-at_back g c =
     let at : serial_at c.args.syncs.now (Gl c.args.number) ≡ Some c.in-Some.serial = search rules in
-    then_within 0 false false (IsSyncReason c.args.self.now.state c.args.self.now.serials c.args.syncs.now c.args.thread c.args.call.now) (omega arith) (λ on. on) (λ on. on) (λ on. on) (λ on. on)
-    (wait_sync_reason c.args.self.now.state c.args.self.now.serials c.args.syncs.now c.args.thread c.args.number c.args.call.now c.in-Some.serial c.requires.which at)
-    (no_batch (IsSyncReason c.args.self.now.state c.args.self.now.serials c.args.syncs.now c.args.thread c.args.call.now))
+    then_within 0 false false (IsNeededAnd c.args.syncs.now (IsSyncReason c.args.self.now.state c.args.self.now.serials c.args.syncs.now c.args.thread c.args.call.now)) (omega arith) (λ on. on) (λ on. on) (λ on. on) (λ on. on)
+    (needed_for_sync c.args.syncs.now c.in-Some.serial (c.syncs_are_there.ensures.made (face c.args.self.now.core) (g.L.BackLink.state c.args.link.now) c.args.self.now.state c.args.self.now.serials c.args.syncs.now c.args.thread c.args.call.now (Gl c.args.number) c.in-Some.serial c.requires.may at).low
+    (wait_sync_reason c.args.self.now.state c.args.self.now.serials c.args.syncs.now c.args.thread c.args.number c.args.call.now c.in-Some.serial c.requires.which at))
+    (no_batch (IsNeededAnd c.args.syncs.now (IsSyncReason c.args.self.now.state c.args.self.now.serials c.args.syncs.now c.args.thread c.args.call.now)))
     c.in-Ok.ensures.at_back c.in-Ok-state_call.ensures.at_back
 
 pub returns-in-Err-state_call-clause-at_back : goal.returns-in-Err-state_call-clause-at_back
 returns-in-Err-state_call-clause-at_back g c =
     let at : serial_at c.args.syncs.now (Gl c.args.number) ≡ Some c.in-Some.serial = search rules in
-    then_within 0 false true (IsSyncReason c.args.self.now.state c.args.self.now.serials c.args.syncs.now c.args.thread c.args.call.now) (omega arith) (λ on. on) (λ on. on) (λ on. refl) (λ on. refl)
-    (wait_sync_reason c.args.self.now.state c.args.self.now.serials c.args.syncs.now c.args.thread c.args.number c.args.call.now c.in-Some.serial c.requires.which at)
-    (no_batch (IsSyncReason c.args.self.now.state c.args.self.now.serials c.args.syncs.now c.args.thread c.args.call.now))
+    then_within 0 false true (IsNeededAnd c.args.syncs.now (IsSyncReason c.args.self.now.state c.args.self.now.serials c.args.syncs.now c.args.thread c.args.call.now)) (omega arith) (λ on. on) (λ on. on) (λ on. refl) (λ on. refl)
+    (needed_for_sync c.args.syncs.now c.in-Some.serial (c.syncs_are_there.ensures.made (face c.args.self.now.core) (g.L.BackLink.state c.args.link.now) c.args.self.now.state c.args.self.now.serials c.args.syncs.now c.args.thread c.args.call.now (Gl c.args.number) c.in-Some.serial c.requires.may at).low
+    (wait_sync_reason c.args.self.now.state c.args.self.now.serials c.args.syncs.now c.args.thread c.args.number c.args.call.now c.in-Some.serial c.requires.which at))
+    (no_batch (IsNeededAnd c.args.syncs.now (IsSyncReason c.args.self.now.state c.args.self.now.serials c.args.syncs.now c.args.thread c.args.call.now)))
     c.in-Ok.ensures.at_back c.state_call.ensures.at_back
 
 pub returns-in-Err-clause-at_back : goal.returns-in-Err-clause-at_back
 returns-in-Err-clause-at_back g c =
     let at : serial_at c.args.syncs.now (Gl c.args.number) ≡ Some c.in-Some.serial = search rules in
-    may_hand (IsSyncReason c.args.self.now.state c.args.self.now.serials c.args.syncs.now c.args.thread c.args.call.now)
-    (wait_sync_reason c.args.self.now.state c.args.self.now.serials c.args.syncs.now c.args.thread c.args.number c.args.call.now c.in-Some.serial c.requires.which at)
+    may_hand (IsNeededAnd c.args.syncs.now (IsSyncReason c.args.self.now.state c.args.self.now.serials c.args.syncs.now c.args.thread c.args.call.now))
+    (needed_for_sync c.args.syncs.now c.in-Some.serial (c.syncs_are_there.ensures.made (face c.args.self.now.core) (g.L.BackLink.state c.args.link.now) c.args.self.now.state c.args.self.now.serials c.args.syncs.now c.args.thread c.args.call.now (Gl c.args.number) c.in-Some.serial c.requires.may at).low
+    (wait_sync_reason c.args.self.now.state c.args.self.now.serials c.args.syncs.now c.args.thread c.args.number c.args.call.now c.in-Some.serial c.requires.which at))
     c.in-Err.ensures.at_back

@@ -38,7 +38,7 @@ returns g c =
     let core : d ≡ record k { indexes = with_last k.indexes c.args.index c.next-number.result; pending = slice_set k.pending c.place-place.result [] } = cc in
     let group : (face d).group ≡ (face c.args.self.now).group = ap (λ (x : CoreParts). x.indexes.group) core ∙ ap (λ (x : CoreParts). x.indexes.group) c.self.view_is in
     let flush_of : IsFlushOf (face c.args.self.now) c.args.index c.args.reason batch =
-    record { of_index = refl; all = next_.all ∙ ap (λ (x : CoreParts). (face x).pending c.args.index) c.self.view_is; for_reason = refl } in
+    record { of_index = refl; number = next_.next ∙ ap (λ (x : CoreParts). (face x).last c.args.index + 1) c.self.view_is; all = next_.all ∙ ap (λ (x : CoreParts). (face x).pending c.args.index) c.self.view_is; for_reason = refl } in
     let why : (b : Batch) → b ≡ batch → IsFlushOf (face c.args.self.now) c.args.index c.args.reason b = λ b is. subst (IsFlushOf (face c.args.self.now) c.args.index c.args.reason) (sym is) flush_of in
     let last : (face d).last ≡ put (face c.args.self.now).last c.args.index ((face c.args.self.now).last c.args.index + 1) =
     subst (λ (x : CoreParts). (face d).last ≡ put (face x).last c.args.index ((face x).last c.args.index + 1)) c.self.view_is
