@@ -31,7 +31,7 @@ use Rattle.sync_serials.specs.Serials.{SyncTables, newest_of}
 use Rattle.front_core.specs.Answering.{changes_contexts}
 use Rattle.front_core.specs.Share.{IsCarriedOut, current_index, replaced_index, replaced_by}
 use Rattle.front_core.specs.Economy as economy
-use Rattle.front_core.specs.Economy.{upload_due, due_of, may_wait, waits_of, used_targets, IsNeeded, IsNeededAnd, IsUsedBy, maps_a_buffer, IsSwitch, IsTrueReason, IsForSync, IsSyncReason, HasTrueReason, MayHandOver, IsEndingBatch}
+use Rattle.front_core.specs.Economy.{upload_due, due_of, may_wait, waits_of, used_targets, IsNeeded, IsNeededAnd, IsUsedBy, maps_a_buffer, IsSwitch, IsTrueReason, IsForSync, IsWaitedFor, IsForWait, IsSyncReason, HasTrueReason, MayHandOver, IsEndingBatch}
 
 never : {A : Type 0} → false ≡ true → A
 never wrong = absurd (false≢true wrong)
@@ -154,12 +154,16 @@ flush_for_sync f serial above most batch flush = record {
 }
 
 -- the batch of a sync is needed
+pub sync_is_needed : (tables : SyncTables) (serial : QueueSerial) → serial.number ≤ newest_of tables serial.index → (batch : Batch) → IsForSync serial batch → IsNeeded tables batch
+sync_is_needed tables serial low batch is = λ none. subst (λ i. batch.number ≤ newest_of tables i) (sym is.of_index) (subst (λ n. n ≤ newest_of tables serial.index) (sym is.number) low)
+
 pub needed_for_sync : (tables : SyncTables) (serial : QueueSerial) {MayHand : Batch → Type 0} → serial.number ≤ newest_of tables serial.index → ((batch : Batch) → IsForSync serial batch → MayHand batch) → (batch : Batch) →
     IsForSync serial batch → IsNeededAnd tables MayHand batch
-needed_for_sync tables serial {MayHand} low hand batch is = record {
-  is = hand batch is;
-  needed = λ none. subst (λ i. batch.number ≤ newest_of tables i) (sym is.of_index) (subst (λ n. n ≤ newest_of tables serial.index) (sym is.number) low);
-}
+needed_for_sync tables serial {MayHand} low hand batch is = record { is = hand batch is; needed = sync_is_needed tables serial low batch is }
+
+pub waited_is_needed : (group : GroupState) (serials : Entries ℕ) (tables : SyncTables) (thread : ℕ) (serial : QueueSerial) (flush : Bool) (timeout : ℕ) → serial.number ≤ newest_of tables serial.index → (batch : Batch) →
+    IsWaitedFor serial timeout batch → IsNeededAnd tables (IsForWait group serials thread serial flush timeout) batch
+waited_is_needed group serials tables thread serial flush timeout low batch waited = record { is = inr waited; needed = sync_is_needed tables serial low batch waited.for_sync }
 
 -- a batch that touches something has nodes, and so has a full one
 touching_has_nodes : (batch : Batch) (id : ℕ) → batch_touches batch id ≡ true → batch.nodes ≢ []

@@ -12,7 +12,7 @@ use Rattle.front_core.specs.Front.{IsServed}
 use Rattle.front_core.proofs.GoingOn.{gone_on}
 use Rattle.front_core.proofs.Switching.{may_still, carried_from, flushed_still}
 use Rattle.front_core.proofs.Serving.{gone_then}
-use Rattle.front_core.proofs.AtTheBack.{needed_map}
+use Rattle.front_core.proofs.AtTheBack.{may_hand, needed_map}
 use Rattle.front_core.proofs.share.Share.flush_call.Goals as goal
 
 pub state_call-requires-clause-may : goal.state_call-requires-clause-may
@@ -54,3 +54,7 @@ returns-in-Err-state_call-clause-at_back g c =
     then_within 0 false true (IsNeededAnd c.args.syncs.now (IsSyncReason c.args.self.now.state c.args.self.now.serials c.args.syncs.now c.args.thread call.Flush)) (omega arith) (λ on. on) (λ on. on) (λ on. refl) (λ on. refl)
     (needed_map c.args.syncs.now (λ batch may. economy.flush refl may)) (no_batch (IsNeededAnd c.args.syncs.now (IsSyncReason c.args.self.now.state c.args.self.now.serials c.args.syncs.now c.args.thread call.Flush)))
     c.in-Ok.ensures.at_back c.state_call.ensures.at_back
+
+pub returns-in-Err-clause-at_back : goal.returns-in-Err-clause-at_back
+returns-in-Err-clause-at_back g c =
+    may_hand (IsNeededAnd c.args.syncs.now (IsSyncReason c.args.self.now.state c.args.self.now.serials c.args.syncs.now c.args.thread call.Flush)) (needed_map c.args.syncs.now (λ batch may. economy.flush refl may)) c.in-Err.ensures.at_back

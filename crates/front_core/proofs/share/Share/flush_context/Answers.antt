@@ -20,7 +20,7 @@ pub returns-then-has_pending-clause-at_back : goal.returns-then-has_pending-clau
 returns-then-has_pending-clause-at_back g c =
     let waits : (face c.args.self.now.core).pending c.args.index ≡ [] → (face c.args.self.now.core).last c.args.index < newest_of c.args.syncs.now c.args.index =
     elim c.then-has_pending.branch [
-      | then-has_pending-via-then-has_pending w ↦ none_pending ((face c.args.self.now.core).pending c.args.index) (w.has_pending.ensures.some w.if-has_pending.true)
+      | then-has_pending-via-then-has_pending w ↦ none_pending ((face c.args.self.now.core).pending c.args.index) (c.has_pending.ensures.some w.if-has_pending.true)
       | then-has_pending-via-else-has_pending+then-newest-last w ↦ λ none. search rules
     ] in
     may_hand (IsNeededAnd c.args.syncs.now (IsFlushOf (face c.args.self.now.core) c.args.index c.args.reason))

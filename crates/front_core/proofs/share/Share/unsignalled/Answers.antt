@@ -6,7 +6,7 @@ use Rattle.front_moves.specs.Core.{face}
 use Rattle.front_core.specs.Share.{current_index}
 use Rattle.front_core.specs.Economy.{IsNeededAnd, IsForWait}
 use Rattle.front_core.proofs.SyncMoves.{ok_map, some_map, stays_then}
-use Rattle.front_core.proofs.AtTheBack.{needed_map, needed_for_sync}
+use Rattle.front_core.proofs.AtTheBack.{needed_map, waited_is_needed}
 use Rattle.front_core.proofs.share.Share.unsignalled.Goals as goal
 
 pub returns-in-Ok-clause-stays : goal.returns-in-Ok-clause-stays
@@ -22,7 +22,7 @@ pub returns-in-Ok-clause-at_back : goal.returns-in-Ok-clause-at_back
 returns-in-Ok-clause-at_back g c =
     then_within 0 (not (c.args.timeout == 0)) (is_err c.wait_if.result) (IsNeededAnd c.args.syncs.now (IsForWait c.args.self.now.state c.args.self.now.serials c.args.thread c.args.serial c.args.flush c.args.timeout)) (omega arith)
     (λ on. absurd (false≢true on)) (λ on. on) (λ on. absurd (false≢true on)) (λ on. on) (needed_map c.args.syncs.now (λ batch may. inl may))
-    (λ batch may. needed_for_sync c.args.syncs.now c.args.serial c.requires.made.low (λ b for_sync. inr (record { positive = may.positive; for_sync = for_sync })) batch may.for_sync)
+    (waited_is_needed c.args.self.now.state c.args.self.now.serials c.args.syncs.now c.args.thread c.args.serial c.args.flush c.args.timeout c.requires.made.low)
     c.in-Ok.ensures.at_back c.wait_if.ensures.at_back
 
 pub returns-in-Err-clause-at_back : goal.returns-in-Err-clause-at_back
