@@ -68,3 +68,9 @@ returns-in-Ok-clause-at_back g c =
     (needed_map c.args.syncs.now (λ batch is. switch_is_true (face c.args.self.now.core) c.args.self.now.state c.args.self.now.serials c.args.thread c.args.number batch (subst (λ n. IsSwitch c.args.self.now.state c.args.self.now.serials c.args.thread n batch) c.from.ensures is)))
     (no_batch (IsNeededAnd c.args.syncs.now (IsTrueReason (face c.args.self.now.core) c.args.self.now.state c.args.self.now.serials c.args.thread (call.MakeCurrent c.args.number))))
     c.in-Ok.ensures.at_back c.state_call.ensures.at_back
+
+pub returns-clause-at_back : goal.returns-clause-at_back
+returns-clause-at_back g c =
+    may_hand (IsNeededAnd c.args.syncs.now (IsTrueReason (face c.args.self.now.core) c.args.self.now.state c.args.self.now.serials c.args.thread (call.MakeCurrent c.args.number)))
+    (needed_map c.args.syncs.now (λ batch is. switch_is_true (face c.args.self.now.core) c.args.self.now.state c.args.self.now.serials c.args.thread c.args.number batch (subst (λ n. IsSwitch c.args.self.now.state c.args.self.now.serials c.args.thread n batch) c.from.ensures is)))
+    c.in-Err.ensures.at_back
