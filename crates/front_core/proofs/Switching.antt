@@ -1,6 +1,6 @@
 -- A call after a flush is a call from before it.
 use Rattle.std.proofs.Common.{◌≡◌, ℕ, ◌≤◌, None, sym, ◌∙◌, ap, subst, arith}
-use Rattle.std.specs.Prelude.{Option, Some, IfSome, Result, Ok, Err, OnOk, List, []}
+use Rattle.std.specs.Prelude.{Option, Some, IfSome, Result, Ok, Err, OnOk, List}
 use Rattle.std.specs.Option.{option_map}
 use Rattle.gl_calls.specs.declared.call.Call.{Call}
 use Rattle.gl_calls.specs.declared.reply.Reply.{Reply}

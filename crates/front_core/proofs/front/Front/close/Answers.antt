@@ -1,4 +1,4 @@
-use Rattle.std.proofs.Common.{◌≡◌, ◌≤◌, false, true, refl, sym, subst, ◌∙◌, ap, arith}
+use Rattle.std.proofs.Common.{◌≤◌, false, true, refl, sym, subst, ◌∙◌, ap, arith}
 use Rattle.submit_queue.specs.Histories.{last_number}
 use Rattle.back_core.specs.Own.{batches_of}
 use Rattle.back_core.specs.Needs.{IsOfGroup}

@@ -1,4 +1,4 @@
-use Rattle.std.proofs.Common.{◌≡◌, refl, sym, subst, ◌∙◌, ap, nat_le, true, false}
+use Rattle.std.proofs.Common.{refl, sym, subst, ◌∙◌, ap, true, false}
 use Rattle.gl_calls.specs.declared.call.Call.{Call}
 use Rattle.gl_calls.specs.declared.call.Call.TheVariants as call
 use Rattle.gl_calls.specs.declared.reply.Reply.TheVariants as reply
@@ -9,7 +9,7 @@ use Rattle.sync_serials.specs.declared.serials.SyncName.TheVariants.{Egl}
 use Rattle.front_core.specs.Economy.{IsNeededAnd, IsSyncReason, may_wait}
 use Rattle.front_core.specs.Front.{IsServed}
 use Rattle.front_core.specs.Polls.{Polls, answer_by}
-use Rattle.front_core.proofs.AtTheBack.{may_hand, though_stopped, needed_map}
+use Rattle.front_core.proofs.AtTheBack.{may_hand, needed_map}
 use Rattle.front_core.proofs.Serving.{poll_reason}
 use Rattle.front_core.proofs.share.Share.egl_client_wait.Goals as goal
 

@@ -5,7 +5,7 @@ use Rattle.vk_types.specs.declared.batches.Reason.TheVariants as reason
 use Rattle.back_core.proofs.Frames.{within, then_within, no_batch}
 use Rattle.front_moves.specs.Core.{face}
 use Rattle.front_core.specs.Economy.{IsNeededAnd, IsOfCurrent}
-use Rattle.front_core.proofs.AtTheBack.{nothing_done, may_hand, needed_map}
+use Rattle.front_core.proofs.AtTheBack.{nothing_done, needed_map}
 use Rattle.front_core.proofs.SyncMoves.{ok_map, stays_then, own_flush}
 use Rattle.front_core.proofs.share.Share.finish_current.Goals as goal
 

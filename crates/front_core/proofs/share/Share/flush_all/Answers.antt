@@ -1,10 +1,10 @@
-use Rattle.std.proofs.Common.{◌≡◌, ◌≢◌, ◌≤◌, ◌<◌, ◌+◌, ◌*◌, ℕ, true, false, refl, sym, subst, ◌∙◌, ap, arith, inl, inr}
+use Rattle.std.proofs.Common.{◌≡◌, ◌≤◌, ◌<◌, ◌+◌, ◌*◌, ℕ, true, false, refl, sym, subst, ◌∙◌, ap, arith, inl, inr}
 use Rattle.std.specs.Prelude.{◌⊎◌}
 use Rattle.std.proofs.lemmas.Bool.{cases_eq}
 use Rattle.back_core.specs.Needs.{IsOfGroup}
 use Rattle.back_core.proofs.Frames.{then_within}
 use Rattle.front_moves.specs.Core.{face}
-use Rattle.sync_serials.specs.Serials.{HasGoneOn, newest_of}
+use Rattle.sync_serials.specs.Serials.{HasGoneOn}
 use Rattle.front_core.specs.Economy.{IsEndingBatch}
 use Rattle.front_core.specs.Polls.{HasFlushedAll, FlushedStay}
 use Rattle.front_core.proofs.AtTheBack.{nothing_done, flush_ends}

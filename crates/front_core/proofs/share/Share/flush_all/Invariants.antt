@@ -1,4 +1,4 @@
-use Rattle.std.proofs.Common.{◌≡◌, ◌≤◌, ◌<◌, ◌+◌, ◌*◌, ℕ, false}
+use Rattle.std.proofs.Common.{◌≤◌, ◌<◌, ◌+◌, ◌*◌, ℕ, false}
 use Rattle.back_core.specs.Frame.{AtBack}
 use Rattle.front_moves.specs.Core.{face}
 use Rattle.sync_serials.specs.Serials.{HasGoneOn}

@@ -1,4 +1,4 @@
-use Rattle.std.proofs.Common.{◌≡◌, sym, ◌∙◌, ap, subst, refl, [], arith, false, true}
+use Rattle.std.proofs.Common.{◌≡◌, sym, ◌∙◌, ap, subst, refl, arith, false, true}
 use Rattle.std.specs.Prelude.{IfSome}
 use Rattle.gl_calls.specs.declared.call.Call.TheVariants as call
 use Rattle.tables.specs.Table.{has, only}
@@ -57,14 +57,14 @@ returns-in-Ok-state_call-clause-left g c =
 
 pub returns-in-Ok-state_call-clause-at_back : goal.returns-in-Ok-state_call-clause-at_back
 returns-in-Ok-state_call-clause-at_back g c =
-    then_within 0 false false (IsNeededAnd c.args.syncs.now (IsTrueReason (face c.args.self.now.core) c.args.self.now.state c.args.self.now.serials c.args.thread (call.MakeCurrent c.args.number))) (omega arith) (λ on. on) (λ on. on) (λ on. on) (λ on. on) 
+    then_within 0 false false (IsNeededAnd c.args.syncs.now (IsTrueReason (face c.args.self.now.core) c.args.self.now.state c.args.self.now.serials c.args.thread (call.MakeCurrent c.args.number))) (omega arith) (λ on. on) (λ on. on) (λ on. on) (λ on. on)
     (needed_map c.args.syncs.now (λ batch is. switch_is_true (face c.args.self.now.core) c.args.self.now.state c.args.self.now.serials c.args.thread c.args.number batch (subst (λ n. IsSwitch c.args.self.now.state c.args.self.now.serials c.args.thread n batch) c.from.ensures is)))
     (no_batch (IsNeededAnd c.args.syncs.now (IsTrueReason (face c.args.self.now.core) c.args.self.now.state c.args.self.now.serials c.args.thread (call.MakeCurrent c.args.number))))
     c.in-Ok.ensures.at_back c.in-Ok-state_call.ensures.at_back
 
 pub returns-in-Ok-clause-at_back : goal.returns-in-Ok-clause-at_back
 returns-in-Ok-clause-at_back g c =
-    then_within 0 false true (IsNeededAnd c.args.syncs.now (IsTrueReason (face c.args.self.now.core) c.args.self.now.state c.args.self.now.serials c.args.thread (call.MakeCurrent c.args.number))) (omega arith) (λ on. on) (λ on. on) (λ on. refl) (λ on. refl) 
+    then_within 0 false true (IsNeededAnd c.args.syncs.now (IsTrueReason (face c.args.self.now.core) c.args.self.now.state c.args.self.now.serials c.args.thread (call.MakeCurrent c.args.number))) (omega arith) (λ on. on) (λ on. on) (λ on. refl) (λ on. refl)
     (needed_map c.args.syncs.now (λ batch is. switch_is_true (face c.args.self.now.core) c.args.self.now.state c.args.self.now.serials c.args.thread c.args.number batch (subst (λ n. IsSwitch c.args.self.now.state c.args.self.now.serials c.args.thread n batch) c.from.ensures is)))
     (no_batch (IsNeededAnd c.args.syncs.now (IsTrueReason (face c.args.self.now.core) c.args.self.now.state c.args.self.now.serials c.args.thread (call.MakeCurrent c.args.number))))
     c.in-Ok.ensures.at_back c.state_call.ensures.at_back

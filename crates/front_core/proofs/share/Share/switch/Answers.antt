@@ -1,8 +1,5 @@
-use Rattle.std.proofs.Common.{◌≡◌, ℕ, Some, Option, false, sym, subst, ap}
-use Rattle.std.specs.Prelude.{IfSome, OnOk, Result, Ok, Err}
+use Rattle.std.proofs.Common.{false}
 use Rattle.front_moves.specs.Core.{face}
-use Rattle.front_moves.specs.Reasons.{IsFlushOf}
-use Rattle.vk_types.specs.declared.batches.Reason.TheVariants as reason
 use Rattle.front_core.specs.Economy.{IsNeededAnd, IsSwitch}
 use Rattle.front_core.specs.Polls.{HasFlushedAll}
 use Rattle.front_core.specs.Share.{replaced_index}

@@ -1,8 +1,7 @@
-use Rattle.std.proofs.Common.{◌≡◌, sym, subst, arith}
+use Rattle.std.proofs.Common.{sym, subst, arith}
 use Rattle.std.specs.Prelude.{IfOk, is_err}
 use Rattle.std.proofs.lemmas.Bool.{false≢true}
 use Rattle.gl_calls.specs.declared.call.Call.{Call}
-use Rattle.gl_calls.specs.declared.call.Call.TheVariants as call
 use Rattle.back_core.proofs.Frames.{within, no_batch}
 use Rattle.front_moves.specs.Core.{face}
 use Rattle.front_core.specs.Economy.{IsNeededAnd, IsSyncReason, may_wait}

@@ -1,4 +1,4 @@
-use Rattle.std.proofs.Common.{true, refl, arith, inl, inr, not, ◌==◌}
+use Rattle.std.proofs.Common.{true, refl, arith, inl, not, ◌==◌}
 use Rattle.std.specs.Prelude.{is_err}
 use Rattle.std.proofs.lemmas.Bool.{false≢true}
 use Rattle.back_core.proofs.Frames.{within, then_within}
