@@ -4,3 +4,7 @@ pub mod Joint
 pub mod Uses
 pub mod Growing
 pub mod Due
+pub mod Places
+pub mod Tracked
+pub mod WithDue
+pub mod HostReads

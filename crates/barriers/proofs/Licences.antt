@@ -1,10 +1,16 @@
 -- What a tracker knows decides what is licensed.
-use Rattle.std.proofs.Common.{◌≡◌, List, [], ◌∷◌, ◌++◌, true, false, refl, sym, ◌∙◌, ap, subst}
-use Rattle.std.proofs.lemmas.Bool.{false≢true}
-use Rattle.std.proofs.lemmas.List.{append-nil}
+use Rattle.std.proofs.Common.{◌≡◌, List, [], ◌∷◌, ◌++◌, true, false, refl, sym, ◌∙◌, ap, subst, inl, inr}
+use Rattle.std.proofs.lemmas.Bool.{false≢true, cases_Bool}
+use Rattle.std.proofs.lemmas.List.{append-nil, append_assoc}
+use Rattle.vk_types.specs.declared.ops.Node.{Node}
+use Rattle.vk_types.specs.Touches.{barrier_of}
+use Rattle.vk_model.specs.Log.{Command, commands, touches_object}
+use Rattle.barriers.specs.Logs.{joint_access, uses_by, uses_in}
+use Rattle.barriers.proofs.Joint.{joint_some}
+use Rattle.barriers.proofs.Uses.{use_of_none, use_of_access, use_of_barrier}
 use Rattle.std.proofs.lemmas.List.Elements.{All-nil, All-push}
 use Rattle.std.proofs.lemmas.List.Sums.{fold_push}
-use Rattle.std.specs.Prelude.{fold, All, is_some, ◌==◌, ◌≢◌, ◌&&◌, ◌||◌, not, Bool, Option, Some, None, if◌then◌else◌}
+use Rattle.std.specs.Prelude.{fold, All, is_some, ◌==◌, ◌≢◌, ◌⊎◌, ◌&&◌, ◌||◌, not, Bool, Option, Some, None, if◌then◌else◌}
 use Rattle.std.specs.Option.{option_map, option_map_or}
 use Rattle.std.specs.List.{list_any}
 use Rattle.vk_types.specs.Accesses.{no_access, in_common, joined}
@@ -16,7 +22,7 @@ use Rattle.barriers.specs.declared.tracker.Tracker.{Tracker}
 use Rattle.vk_types.specs.declared.accesses.Layout.{Layout}
 use Rattle.vk_types.specs.declared.accesses.Layout.TheVariants.{Undefined}
 use Rattle.barriers.specs.Licence.{Use, Accessed, Fenced, barrier_after, accesses_after, layout_after, layouts_of, barrier_due, fenced_by, touched, last_barrier, since, union, writes, is_empty, changes_layout, layout_now, first_layout, is_licensed, waited_for}
-use Rattle.barriers.specs.Trackers.{Tracks, IsTouchOf, is_due, first_of}
+use Rattle.barriers.specs.Trackers.{Tracks, IsTouchOf, is_due, first_of, due_by, new_tracker, taken, taken_touch}
 use Rattle.barriers.proofs.Accesses.{joined_writes, union_writes, any_writes, union_empty}
 
 module _ (t : Tracker) (id : HandleId) (is_image : Bool) (uses : List Use) (k : Tracks t id is_image uses) where
@@ -135,3 +141,49 @@ unmoved t touch none = go t.layout touch.layout refl
     go now (Some wanted) f = absurd (false≢true (sym none ∙ ap is_some f))
     go (Some now) None f = refl
     go None None f = refl
+
+-- What a tracker takes in, by what it knows
+
+pub due_by_is : (t : Tracker) (id : HandleId) (is_image : Bool) (uses : List Use) → Tracks t id is_image uses → (touch : Touch) → due_by t touch ≡ barrier_due id is_image uses touch
+due_by_is t id is_image uses k touch = go (is_due t touch) refl
+  where
+    go : (b : Bool) → is_due t touch ≡ b → due_by t touch ≡ barrier_due id is_image uses touch
+    go true e = ap (λ b. if b then Some (record { id = t.id; first = first_of t; second = touch.access; layouts = layouts_of t.layout touch.layout }) else None) e ∙ sym (some_due t id is_image uses k touch e)
+    go false e = ap (λ b. if b then Some (record { id = t.id; first = first_of t; second = touch.access; layouts = layouts_of t.layout touch.layout }) else None) e ∙ sym (none_due t id is_image uses k touch e)
+
+pub tracks_taken : (t : Tracker) (id : HandleId) (is_image : Bool) (uses : List Use) → Tracks t id is_image uses → (touch : Touch) → touch.access ≢ no_access → Tracks (taken_touch t touch) id is_image (touched id is_image uses touch)
+tracks_taken t id is_image uses k touch some =
+    subst (λ o. Tracks (taken_touch t touch) id is_image (uses ++ fenced_by o ++ Accessed touch.access ∷ [])) (due_by_is t id is_image uses k touch) (go (due_by t touch))
+  where
+    go : (o : Option Barrier) → Tracks (fold taken t (fenced_by o ++ Accessed touch.access ∷ [])) id is_image (uses ++ fenced_by o ++ Accessed touch.access ∷ [])
+    go None = subst (λ us. Tracks (taken t (Accessed touch.access)) id is_image (us ++ Accessed touch.access ∷ [])) (sym (append-nil uses)) (tracks_access t id is_image uses k touch.access some)
+    go (Some barrier) = tracks_access (taken t (Fenced barrier)) id is_image (uses ++ Fenced barrier ∷ []) (tracks_barrier t id is_image uses k barrier) touch.access some
+
+-- by the nodes of a list
+
+abbrev RestOf : HandleId → Bool → List Node → Type 0
+RestOf id is_image nodes = (t : Tracker) (uses : List Use) → Tracks t id is_image uses → Tracks (fold taken t (uses_in (commands 0 nodes) id.0)) id is_image (uses ++ uses_in (commands 0 nodes) id.0)
+
+abbrev NowOf : HandleId → Bool → List Node → Tracker → List Use → List Use → Type 0
+NowOf id is_image nodes t uses us = Tracks (fold taken t (us ++ uses_in (commands 0 nodes) id.0)) id is_image (uses ++ (us ++ uses_in (commands 0 nodes) id.0))
+
+pub tracks_nodes : (id : HandleId) (is_image : Bool) (nodes : List Node) (t : Tracker) (uses : List Use) → Tracks t id is_image uses → Tracks (fold taken t (uses_in (commands 0 nodes) id.0)) id is_image (uses ++ uses_in (commands 0 nodes) id.0)
+tracks_nodes id is_image [] t uses k = subst (Tracks t id is_image) (sym (append-nil uses)) k
+tracks_nodes id is_image (n ∷ nodes) t uses k = touched (cases_Bool (touches_object n id.0)) (tracks_nodes id is_image nodes)
+  where
+    use_is : (o : Option Barrier) → barrier_of n ≡ o → touches_object n id.0 ≡ true → RestOf id is_image nodes → NowOf id is_image nodes t uses (uses_by id.0 (Command 0 n))
+    use_is None is on rest =
+        subst (NowOf id is_image nodes t uses) (sym (use_of_access 0 n id.0 on is))
+        (subst (Tracks (fold taken (taken t (Accessed (joint_access n id.0))) (uses_in (commands 0 nodes) id.0)) id is_image) (append_assoc uses (Accessed (joint_access n id.0) ∷ []) (uses_in (commands 0 nodes) id.0))
+        (rest (taken t (Accessed (joint_access n id.0))) (uses ++ Accessed (joint_access n id.0) ∷ []) (tracks_access t id is_image uses k (joint_access n id.0) (joint_some n id.0 is on))))
+    use_is (Some barrier) is on rest =
+        subst (NowOf id is_image nodes t uses) (sym (use_of_barrier 0 n id.0 barrier on is))
+        (subst (Tracks (fold taken (taken t (Fenced barrier)) (uses_in (commands 0 nodes) id.0)) id is_image) (append_assoc uses (Fenced barrier ∷ []) (uses_in (commands 0 nodes) id.0))
+        (rest (taken t (Fenced barrier)) (uses ++ Fenced barrier ∷ []) (tracks_barrier t id is_image uses k barrier)))
+
+    touched : (touches_object n id.0 ≡ true) ⊎ (touches_object n id.0 ≡ false) → RestOf id is_image nodes → NowOf id is_image nodes t uses (uses_by id.0 (Command 0 n))
+    touched (inl on) rest = use_is (barrier_of n) refl on rest
+    touched (inr off) rest = subst (NowOf id is_image nodes t uses) (sym (use_of_none 0 n id.0 off)) (rest t uses k)
+
+pub tracks_new : (id : HandleId) (is_image : Bool) → Tracks (new_tracker id is_image) id is_image []
+tracks_new id is_image = record { of = refl; let_through = refl; accessed = refl; none_empty = All-nil (λ access. access ≢ no_access); layout = refl }

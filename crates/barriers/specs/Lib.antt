@@ -1,3 +1,4 @@
 pub mod Licence
 pub mod Trackers
 pub mod Logs
+pub mod Recording

@@ -12,6 +12,7 @@ ghost use Rattle.vk_model.specs.Tracking.{IsTracked};
 ghost use Rattle.barriers.specs.Licence.{Use, Accessed, Fenced, barrier_due, is_licensed};
 ghost use Rattle.barriers.specs.Trackers.{IsTouchOf};
 ghost use Rattle.barriers.specs.Logs.{AreUsesIn, joint_access, jointly};
+ghost use Rattle.barriers.specs.Recording.{HasLayouts};
 
 use vk_model::trackers_keep_logs_sound;
 
@@ -53,9 +54,11 @@ pub fn no_barrier_is_licensed_twice()
         barrier_due id is_image uses touch ≡ Some barrier → is_licensed is_image (uses ++ Fenced barrier ∷ []) touch ≡ false }
 {}
 
-/// The barrier that is due is one of the touch's object, and it names layouts exactly where that is an image: the new one
-/// is the one that the touch needs.
+/// A node's touch with its joint access is one of its object. The barrier that is due is one of the touch's object, and it names
+/// layouts exactly where that is an image: the new one is the one that the touch needs.
 pub fn due_barriers_fit()
+    ensures touch { (is_image : ℕ → Bool) (n : Node) → barrier_of n ≡ None → HasLayouts is_image n → (t : Touch) → Contains (touches n) t →
+        IsTouchOf t.id (is_image t.id.0) (jointly n t) }
     ensures of { (id : HandleId) (is_image : Bool) (uses : List Use) (touch : Touch) (barrier : Barrier) →
         barrier_due id is_image uses touch ≡ Some barrier → barrier.id ≡ id }
     ensures layouts { (id : HandleId) (is_image : Bool) (uses : List Use) (touch : Touch) (barrier : Barrier) →

@@ -5,9 +5,14 @@
 #![tactic(auto)]
 
 mod laws;
+mod recording_laws;
 mod tracker;
 
 pub use laws::{due_barriers_fit, licensed_barriers_keep_logs_sound, no_barrier_is_licensed_twice};
+pub use recording_laws::{
+    due_barriers_keep_logs_sound, host_reads_are_uses, sound_logs_are_tracked, trackers_take_uses,
+    uses_change_places, writes_are_made_known,
+};
 pub use tracker::Tracker;
 
 #[cfg(test)]

@@ -1,7 +1,7 @@
 // The tracker of one object.
 ghost use Rattle.std.specs.Prelude.{◌≡◌, Bool, List, []};
-ghost use Rattle.barriers.specs.Licence.{Use, writes, changes_layout, layouts_of, barrier_due, touched, layout_now, first_layout};
-ghost use Rattle.barriers.specs.Trackers.{Tracks, IsTouchOf, is_due, first_of};
+ghost use Rattle.barriers.specs.Licence.{Use, Accessed, Fenced, writes, changes_layout, layouts_of, barrier_due, touched, layout_now, first_layout};
+ghost use Rattle.barriers.specs.Trackers.{Tracks, IsTouchOf, is_due, first_of, due_by, new_tracker, taken, taken_touch};
 
 use vk_types::{Access, Barrier, HandleId, Layout, Touch};
 
@@ -18,7 +18,8 @@ pub struct Tracker {
 impl Tracker {
     /// The tracker of a new object, which is an image or a buffer.
     pub fn new(id: HandleId, is_image: bool) -> Tracker
-        ensures { Tracks result id is_image [] }
+        ensures is { result ≡ new_tracker id is_image }
+        ensures tracks { Tracks result id is_image [] }
     {
         Tracker {
             id,
@@ -34,7 +35,8 @@ impl Tracker {
 
     /// The barrier before a touch by a node with this joint access of the object, exactly where one is licensed.
     pub fn before(&self, touch: &Touch) -> Option<Barrier>
-        ensures { (is_image : Bool) (uses : List Use) → Tracks self.now touch.now.id is_image uses →
+        ensures by { result ≡ due_by self.now touch.now }
+        ensures licensed { (is_image : Bool) (uses : List Use) → Tracks self.now touch.now.id is_image uses →
             result ≡ barrier_due touch.now.id is_image uses touch.now }
     {
         if !self.is_due(touch) {
@@ -48,21 +50,35 @@ impl Tracker {
         })
     }
 
+    /// Takes in a barrier of the object.
+    pub fn fence(&mut self, barrier: &Barrier)
+        ensures { self.new ≡ taken self.old (Fenced barrier.now) }
+    {
+        self.second = Some(barrier.second);
+        self.since = Access::NONE;
+        if let Some((_, new)) = barrier.layouts {
+            self.layout = Some(new);
+        }
+    }
+
+    /// Takes in an access of the object, by a node or by the host.
+    pub fn access(&mut self, access: Access)
+        ensures { self.new ≡ taken self.old (Accessed access) }
+    {
+        self.since = self.since.joined(access);
+    }
+
     /// Takes in a touch, and the barrier before it. A read by the host is a touch too.
     pub fn after(&mut self, touch: &Touch)
-        ensures { (is_image : Bool) (uses : List Use) → Tracks self.old touch.now.id is_image uses →
+        ensures takes { self.new ≡ taken_touch self.old touch.now }
+        ensures tracks { (is_image : Bool) (uses : List Use) → Tracks self.old touch.now.id is_image uses →
             IsTouchOf touch.now.id is_image touch.now →
             Tracks self.new touch.now.id is_image (touched touch.now.id is_image uses touch.now) }
     {
-        if !self.is_due(touch) {
-            self.since = self.since.joined(touch.access);
-            return;
+        if let Some(barrier) = self.before(touch) {
+            self.fence(&barrier);
         }
-        self.second = Some(touch.access);
-        self.since = touch.access;
-        if touch.layout.is_some() {
-            self.layout = touch.layout;
-        }
+        self.access(touch.access);
     }
 
     /// The layout that an image is in; a buffer has none.
