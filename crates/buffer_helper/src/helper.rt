@@ -1,21 +1,26 @@
 // The store of a buffer.
-ghost use Rattle.std.specs.Prelude.{◌≡◌, ℕ, max, cond, ◌==◌, [], OnOk, OnErr};
+ghost use Rattle.std.specs.Prelude.{◌≡◌, ℕ, max, cond, ◌==◌, OnOk, OnErr};
+ghost use Rattle.vk_types.specs.Accesses.{host_read};
 ghost use Rattle.resource_use.specs.Uses.{number_of, noted};
+ghost use Rattle.barriers.specs.Trackers.{due_by};
+ghost use Rattle.buffer_helper.specs.Buffers.{new_store, access_of, accessed, fenced, heard};
 
+use barriers::Tracker;
 use garbage::Garbage;
 use resource_use::ResourceUse;
 use std::alloc::{AllocError, Global};
 use std::marker::Model;
 use std::mem;
-use vk_types::{Handle, HandleId, QueueSerial, SerialIndex};
+use vk_types::{Access, Barrier, Handle, HandleId, QueueSerial, SerialIndex, Touch};
 
-/// The store of a buffer: its handle, its size in bytes, and the last uses of it. It can be neither dropped nor cloned:
-/// its handle has to be given away.
+/// The store of a buffer: its handle, its size in bytes, the last uses of it, and the tracker that knows which barriers are due.
+/// It can be neither dropped nor cloned: its handle has to be given away.
 #[derive(Debug)]
 pub struct BufferHelper {
     handle: Handle,
     size: u64,
     uses: ResourceUse,
+    tracker: Tracker,
 }
 
 impl Model for BufferHelper {
@@ -23,18 +28,33 @@ impl Model for BufferHelper {
 
     ghost Value = { BufferStore };
 
-    ghost view = { λ b. record { handle = b.handle; size = b.size; uses = b.uses } };
+    ghost view = { λ b. record { handle = b.handle; size = b.size; uses = b.uses; tracker = b.tracker } };
+}
+
+/// An access of a whole buffer.
+fn whole(id: HandleId, access: Access) -> Touch
+    ensures { result ≡ access_of id access }
+{
+    Touch {
+        id,
+        start: 0,
+        end: u64::MAX,
+        access,
+        layout: None,
+    }
 }
 
 impl BufferHelper {
     /// A store that nothing has used. This takes no memory.
     pub fn new(alloc: Global, handle: Handle, size: u64) -> BufferHelper
-        ensures { result ≡ record { handle = handle; size = size; uses = [] } }
+        ensures { result ≡ new_store handle size }
     {
+        let tracker = Tracker::new(handle.id(), false);
         BufferHelper {
             handle,
             size,
             uses: ResourceUse::new(alloc),
+            tracker,
         }
     }
 
@@ -66,6 +86,39 @@ impl BufferHelper {
         self.uses.number_of(index)
     }
 
+    /// The barrier that is due before nodes access the store so. It and the access are taken in.
+    pub fn plan(&mut self, access: Access) -> Option<Barrier>
+        ensures due { result ≡ due_by self.old.tracker (access_of self.old.handle access) }
+        ensures taken { self.new ≡ accessed access self.old }
+    {
+        let touch = whole(self.handle.id(), access);
+        let due = self.tracker.before(&touch);
+        self.tracker.after(&touch);
+        due
+    }
+
+    /// The barrier that is due before the host reads the store.
+    pub fn due_opening(&self) -> Option<Barrier>
+        ensures { result ≡ due_by self.now.tracker (access_of self.now.handle host_read) }
+    {
+        self.tracker
+            .before(&whole(self.handle.id(), Access::HOST_READ))
+    }
+
+    /// Takes in a barrier of the store.
+    pub fn fence(&mut self, barrier: &Barrier)
+        ensures { self.new ≡ fenced barrier.now self.old }
+    {
+        self.tracker.fence(barrier);
+    }
+
+    /// Takes in that the host reads the store.
+    pub fn hear(&mut self)
+        ensures { self.new ≡ heard self.old }
+    {
+        self.tracker.access(Access::HOST_READ);
+    }
+
     /// Notes a use of the store: the index's number becomes the greater of the two. For want of memory nothing changes.
     pub fn note(&mut self, serial: QueueSerial) -> Result<(), AllocError>
         ensures ok { OnOk result (self.new ≡ record self.old { uses = noted self.old.uses serial }) }
@@ -78,10 +131,11 @@ impl BufferHelper {
 
     /// Gives the buffer another store, which nothing has used, and gives the old one with its uses.
     pub fn replace(&mut self, alloc: Global, fresh: Handle, size: u64) -> Garbage
-        ensures store { self.new ≡ record { handle = fresh; size = size; uses = [] } }
+        ensures store { self.new ≡ new_store fresh size }
         ensures old { result ≡ record { handle = self.old.handle; uses = self.old.uses } }
     {
         self.size = size;
+        self.tracker = Tracker::new(fresh.id(), false);
         let uses = mem::replace(&mut self.uses, ResourceUse::new(alloc));
         let handle = mem::replace(&mut self.handle, fresh);
         Garbage { handle, uses }
@@ -95,6 +149,7 @@ impl BufferHelper {
             handle,
             size: _,
             uses,
+            tracker: _,
         } = self;
         Garbage { handle, uses }
     }

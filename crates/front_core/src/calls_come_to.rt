@@ -29,10 +29,10 @@ pub(crate) fn map_calls_come_to()
         (context : Context) × (current_context group thread ≡ Some context) × HasBound group context target (λ b facts. HasMapRange facts (unsigned_abs offset) (unsigned_abs len)) }
     ensures may_write { (f : Face) (s : Link) (group : GroupState) (thread : ℕ) (target : BufferTarget) (offset : ℤ) (payload : Payload) → MayCall f s group thread (call.MapWrite target offset payload) →
         (context : Context) × (current_context group thread ≡ Some context) × HasBound group context target (λ b facts. HasMapRange facts (unsigned_abs offset) (payload_len payload)) }
-    ensures read { (f : Face) (s t : Link) (group : GroupState) (thread b place : ℕ) (target : BufferTarget) (offset len : ℤ) (out : List ℕ) → MayCall f s group thread (call.MapRead target offset len) →
+    ensures read { (f g : Face) (s t : Link) (group : GroupState) (thread b place : ℕ) (target : BufferTarget) (offset len : ℤ) (out : List ℕ) → MayCall f s group thread (call.MapRead target offset len) →
         ((context : Context) → current_context group thread ≡ Some context → (facts : BufferFacts) × (mapped : Mapped) × IsBound group context target b facts × (facts.map ≡ Some mapped) × (mapped.at ≡ place) × (facts.size ≤ 18446744073709551615)) →
-        Moved f t (view f s) (outline_at f) (IsQuiet f s) → Agrees out (cells (unsigned_abs len) (λ k. view f s (Buffer b) (place + unsigned_abs offset + k))) →
-        IsCarriedOut f f s t group group thread (call.MapRead target offset len) (reply.Bytes out) }
+        Moved g t (view f s) (outline_at f) (IsQuiet f s) → Agrees out (cells (unsigned_abs len) (λ k. view f s (Buffer b) (place + unsigned_abs offset + k))) →
+        IsCarriedOut f g s t group group thread (call.MapRead target offset len) (reply.Bytes out) }
     ensures write { (f : Face) (s t : Link) (group : GroupState) (thread b place : ℕ) (target : BufferTarget) (offset : ℤ) (payload : Payload) → MayCall f s group thread (call.MapWrite target offset payload) →
         ((context : Context) → current_context group thread ≡ Some context → (facts : BufferFacts) × (mapped : Mapped) × IsBound group context target b facts × (facts.map ≡ Some mapped) × (mapped.at ≡ place) × (facts.size ≤ 18446744073709551615)) →
         Moved f t (put_object (view f s) (Buffer b) (with_bytes (view f s (Buffer b)) (place + unsigned_abs offset) (payload_bytes payload))) (outline_at f) (IsQuiet f s) →

@@ -1,15 +1,15 @@
 -- What the front's steps show: recording, staging, beginning and ending.
+use Rattle.std.specs.List.{AllByRecursion}
 use mathlib.Core.Path.{fun_ext}
-use Rattle.std.proofs.Common.{◌≡◌, ◌≢◌, ℕ, ◌+◌, ◌-◌, ◌<◌, ◌≤◌, List, [], ◌∷◌, map, true, false, cond, refl, sym, ◌∙◌, ap, subst, arith, inl, inr}
+use Rattle.std.proofs.Common.{◌≡◌, ◌≢◌, ℕ, ◌+◌, ◌-◌, ◌<◌, ◌≤◌, List, [], ◌∷◌, true, false, cond, refl, sym, ◌∙◌, ap, subst, arith, inl, inr}
 use Rattle.std.specs.Prelude.{◌⊎◌, ◌&&◌, nat_le, nat_lt, Some, None, slice_get}
 use Rattle.std.proofs.lemmas.List.{map-append}
 use Rattle.vk_types.specs.declared.handles.HandleId.{HandleId}
 use Rattle.vk_types.specs.declared.handles.Kind.{Kind}
-use Rattle.vk_types.specs.declared.regions.Touch.{Touch}
 use Rattle.vk_types.specs.declared.ops.Op.{Op}
 use Rattle.vk_types.specs.declared.ops.Op.TheVariants.{CopyBuffer}
 use Rattle.vk_types.specs.declared.ops.Node.{Node}
-use Rattle.vk_types.specs.Touches.{touches, barrier_of, the_end}
+use Rattle.vk_types.specs.Touches.{barrier_of, the_end}
 use Rattle.vk_model.specs.Cells.{Contents}
 use Rattle.vk_model.specs.Log.{Command, commands, touches_object}
 use Rattle.vk_model.specs.Meaning.{apply, after_all}
@@ -17,7 +17,7 @@ use Rattle.back_core.specs.Own.{log_of}
 use Rattle.back_core.specs.Link.{Link, kinds_of, contents_of}
 use Rattle.front_model.specs.Face.{Object, Waiting, Slot, Stored, Face, put_object, indexes_of, in_order, recorded, waits, content_in, view, nodes_touch}
 use Rattle.front_model.specs.Stands.{Hands, Holds}
-use Rattle.front_model.specs.Steps.{with_nodes, MayRecord, full_barrier, fenced, with_object, stored_as, with_waiting, without_place, taken_from}
+use Rattle.front_model.specs.Steps.{with_nodes, MayRecord, KeepsContents, IsBehind, with_object, stored_as, with_waiting, without_place, taken_from}
 use Rattle.front_model.proofs.Base.{cases_object, put_object-same, put_object-other}
 use Rattle.front_model.proofs.Barriers.{barrier_shows}
 use Rattle.front_model.proofs.Contents.{nodes-append, nodes_leave, nodes_alike}
@@ -56,31 +56,35 @@ view_apart f hands s index nodes o b h may is store staging =
           | inr of ↦ staging t.place id t.waiting t.at of
         ]
 
-pub view_barrier : (f : Face) (hands : Hands) (s : Link) (index : ℕ) (n : Node) → Holds f hands s → MayRecord f hands s index (n ∷ []) → ((c : ℕ → ℕ → ℕ) → after_all (kinds_of s) (commands 0 (n ∷ [])) c ≡ c) → view (with_nodes f index (n ∷ [])) s ≡ view f s
-view_barrier f hands s index n h may leaves = fun_ext (λ o. shown_nodes f hands s index (n ∷ []) h may o ∙ ap (λ c. content_in (kinds_of s) c (f.objects o)) (leaves (recorded f s)))
-
 -- Nodes behind barriers
 
-barriers_show : (kinds : ℕ → Kind) (ts : List Touch) (c : Contents) → after_all kinds (commands 0 (map (λ t. full_barrier t.id) ts)) c ≡ c
-barriers_show kinds [] c = refl
-barriers_show kinds (t ∷ ts) c = ap (after_all kinds (commands 0 (map (λ t. full_barrier t.id) ts))) (barrier_shows kinds t.id c) ∙ barriers_show kinds ts c
+barriers_show : (kinds : ℕ → Kind) (fences : List Node) (c : Contents) → AllByRecursion KeepsContents fences → after_all kinds (commands 0 fences) c ≡ c
+barriers_show kinds [] c keep = refl
+barriers_show kinds (n ∷ fences) c keep =
+    ap (after_all kinds (commands 0 fences)) (ap (λ m. apply kinds (Command 0 m) c) keep.0.is ∙ barrier_shows kinds keep.0.id keep.0.first keep.0.second c)
+    ∙ barriers_show kinds fences c keep.1
 
--- they do what the node does
-pub fenced_shows : (kinds : ℕ → Kind) (n : Node) (c : Contents) → after_all kinds (commands 0 (fenced n)) c ≡ apply kinds (Command 0 n) c
-fenced_shows kinds n c = nodes-append kinds (map (λ t. full_barrier t.id) (touches n)) (n ∷ []) c ∙ ap (apply kinds (Command 0 n)) (barriers_show kinds (touches n) c)
+-- nodes behind barriers do what the last one does
+pub behind_shows : (kinds : ℕ → Kind) (nodes : List Node) (n : Node) (c : Contents) → IsBehind nodes n → after_all kinds (commands 0 nodes) c ≡ apply kinds (Command 0 n) c
+behind_shows kinds nodes n c behind =
+    ap (λ l. after_all kinds (commands 0 l) c) behind.is
+    ∙ (nodes-append kinds behind.fences (n ∷ []) c ∙ ap (apply kinds (Command 0 n)) (barriers_show kinds behind.fences c behind.keep))
 
-pub shown_fenced : (f : Face) (hands : Hands) (s : Link) (index : ℕ) (n : Node) → Holds f hands s → MayRecord f hands s index (fenced n) → (o : Object) → view (with_nodes f index (fenced n)) s o ≡ content_in (kinds_of s) (apply (kinds_of s) (Command 0 n) (recorded f s)) (f.objects o)
-shown_fenced f hands s index n h may o = shown_nodes f hands s index (fenced n) h may o ∙ ap (λ c. content_in (kinds_of s) c (f.objects o)) (fenced_shows (kinds_of s) n (recorded f s))
+pub shown_behind : (f : Face) (hands : Hands) (s : Link) (index : ℕ) (nodes : List Node) (n : Node) → Holds f hands s → MayRecord f hands s index nodes → IsBehind nodes n → (o : Object) → view (with_nodes f index nodes) s o ≡ content_in (kinds_of s) (apply (kinds_of s) (Command 0 n) (recorded f s)) (f.objects o)
+shown_behind f hands s index nodes n h may behind o = shown_nodes f hands s index nodes h may o ∙ ap (λ c. content_in (kinds_of s) c (f.objects o)) (behind_shows (kinds_of s) nodes n (recorded f s) behind)
+
+pub view_barriers : (f : Face) (hands : Hands) (s : Link) (index : ℕ) (fences : List Node) → Holds f hands s → MayRecord f hands s index fences → AllByRecursion KeepsContents fences → view (with_nodes f index fences) s ≡ view f s
+view_barriers f hands s index fences h may keep = fun_ext (λ o. shown_nodes f hands s index fences h may o ∙ ap (λ c. content_in (kinds_of s) c (f.objects o)) (barriers_show (kinds_of s) fences (recorded f s) keep))
 
 -- a copy from a handle that has these cells, to an object on which nothing waits
-view_copied_from : (from : ℕ → ℕ) (f : Face) (hands : Hands) (s : Link) (index : ℕ) (q : Object) (c : Stored) (src dst : HandleId) (src_at dst_at size : ℕ) → from ≡ recorded f s src.0 → Holds f hands s →
-    MayRecord f hands s index (fenced (copy_node src src_at dst dst_at size)) →
+view_copied_from : (from : ℕ → ℕ) (f : Face) (hands : Hands) (s : Link) (index : ℕ) (nodes : List Node) (q : Object) (c : Stored) (src dst : HandleId) (src_at dst_at size : ℕ) → from ≡ recorded f s src.0 → Holds f hands s →
+    MayRecord f hands s index nodes → IsBehind nodes (copy_node src src_at dst dst_at size) →
     f.objects q ≡ Some c → c.waiting ≡ [] → c.handle ≡ dst.0 →
     src_at + size ≤ the_end → dst_at + size ≤ the_end →
-    view (with_nodes f index (fenced (copy_node src src_at dst dst_at size))) s
+    view (with_nodes f index nodes) s
     ≡ put_object (view f s) q (λ i. cond (nat_le dst_at i && nat_lt i (dst_at + size)) (from (src_at + (i - dst_at))) (view f s q i))
-view_copied_from from f hands s index q c src dst src_at dst_at size source h may at_q clear_q is_dst src_inside dst_inside =
-    fun_ext (λ p. shown_fenced f hands s index (copy_node src src_at dst dst_at size) h may p ∙ go p (cases_object p q))
+view_copied_from from f hands s index nodes q c src dst src_at dst_at size source h may behind at_q clear_q is_dst src_inside dst_inside =
+    fun_ext (λ p. shown_behind f hands s index nodes (copy_node src src_at dst dst_at size) h may behind p ∙ go p (cases_object p q))
   where
     copied : Contents
     copied = apply (kinds_of s) (Command 0 (copy_node src src_at dst dst_at size)) (recorded f s)
@@ -112,23 +116,23 @@ view_copied_from from f hands s index q c src dst src_at dst_at size source h ma
         (λ j ne. fun_ext (λ i. copy_leaves (kinds_of s) src src_at dst dst_at size (recorded f s) j i (inl (λ e. ne (sym e)))))
         ∙ sym (put_object-other (view f s) q new p other)
 
-pub view_copied : (f : Face) (hands : Hands) (s : Link) (index : ℕ) (o q : Object) (b c : Stored) (src dst : HandleId) (src_at dst_at size : ℕ) → Holds f hands s →
-    MayRecord f hands s index (fenced (copy_node src src_at dst dst_at size)) →
+pub view_copied : (f : Face) (hands : Hands) (s : Link) (index : ℕ) (nodes : List Node) (o q : Object) (b c : Stored) (src dst : HandleId) (src_at dst_at size : ℕ) → Holds f hands s →
+    MayRecord f hands s index nodes → IsBehind nodes (copy_node src src_at dst dst_at size) →
     f.objects o ≡ Some b → b.waiting ≡ [] → b.handle ≡ src.0 → f.objects q ≡ Some c → c.waiting ≡ [] → c.handle ≡ dst.0 →
     src_at + size ≤ the_end → dst_at + size ≤ the_end →
-    view (with_nodes f index (fenced (copy_node src src_at dst dst_at size))) s
+    view (with_nodes f index nodes) s
     ≡ put_object (view f s) q (λ i. cond (nat_le dst_at i && nat_lt i (dst_at + size)) (view f s o (src_at + (i - dst_at))) (view f s q i))
-view_copied f hands s index o q b c src dst src_at dst_at size h may at_o clear_o is_src =
-    view_copied_from (view f s o) f hands s index q c src dst src_at dst_at size
-    (ap (content_in (kinds_of s) (recorded f s)) at_o ∙ content_clear (kinds_of s) (recorded f s) b clear_o ∙ ap (recorded f s) is_src) h may
+view_copied f hands s index nodes o q b c src dst src_at dst_at size h may behind at_o clear_o is_src =
+    view_copied_from (view f s o) f hands s index nodes q c src dst src_at dst_at size
+    (ap (content_in (kinds_of s) (recorded f s)) at_o ∙ content_clear (kinds_of s) (recorded f s) b clear_o ∙ ap (recorded f s) is_src) h may behind
 
-pub view_uploaded : (f : Face) (hands : Hands) (s : Link) (index : ℕ) (q : Object) (c : Stored) (src dst : HandleId) (src_at dst_at size : ℕ) → Holds f hands s →
-    MayRecord f hands s index (fenced (copy_node src src_at dst dst_at size)) →
+pub view_uploaded : (f : Face) (hands : Hands) (s : Link) (index : ℕ) (nodes : List Node) (q : Object) (c : Stored) (src dst : HandleId) (src_at dst_at size : ℕ) → Holds f hands s →
+    MayRecord f hands s index nodes → IsBehind nodes (copy_node src src_at dst dst_at size) →
     f.objects q ≡ Some c → c.waiting ≡ [] → c.handle ≡ dst.0 → src_at + size ≤ the_end → dst_at + size ≤ the_end →
-    view (with_nodes f index (fenced (copy_node src src_at dst dst_at size))) s
+    view (with_nodes f index nodes) s
     ≡ put_object (view f s) q (λ i. cond (nat_le dst_at i && nat_lt i (dst_at + size)) (recorded f s src.0 (src_at + (i - dst_at))) (view f s q i))
-view_uploaded f hands s index q c src dst src_at dst_at size h may =
-    view_copied_from (recorded f s src.0) f hands s index q c src dst src_at dst_at size refl h may
+view_uploaded f hands s index nodes q c src dst src_at dst_at size h may behind =
+    view_copied_from (recorded f s src.0) f hands s index nodes q c src dst src_at dst_at size refl h may behind
 
 -- What waits
 
@@ -137,12 +141,12 @@ first_done : (kinds : ℕ → Kind) (ws : List Waiting) (w : Waiting) → slice_
 first_done kinds [] w at c = cc
 first_done kinds (v ∷ ws) w at c = let same : w ≡ v = cc in ap (λ (x : Waiting). after_all kinds (commands 0 (nodes_of ws)) (apply kinds (Command 0 x.node) c)) same
 
-pub view_drained : (f : Face) (hands also : Hands) (s : Link) (index : ℕ) (o : Object) (b : Stored) (w : Waiting) → Holds f hands s →
+pub view_drained : (f : Face) (hands also : Hands) (s : Link) (index : ℕ) (nodes : List Node) (o : Object) (b : Stored) (w : Waiting) → Holds f hands s →
     f.objects o ≡ Some b → slice_get b.waiting 0 ≡ Some w → barrier_of w.node ≡ None →
-    Holds (with_object f o (Some (taken_from b 0))) also s → MayRecord (with_object f o (Some (taken_from b 0))) also s index (fenced w.node) →
-    view (with_nodes (with_object f o (Some (taken_from b 0))) index (fenced w.node)) s ≡ view f s
-view_drained f hands also s index o b w h is first none h' may =
-    fun_ext (λ p. shown_fenced (with_object f o (Some (taken_from b 0))) also s index w.node h' may p ∙ go p (cases_object p o))
+    Holds (with_object f o (Some (taken_from b 0))) also s → MayRecord (with_object f o (Some (taken_from b 0))) also s index nodes → IsBehind nodes w.node →
+    view (with_nodes (with_object f o (Some (taken_from b 0))) index nodes) s ≡ view f s
+view_drained f hands also s index nodes o b w h is first none h' may behind =
+    fun_ext (λ p. shown_behind (with_object f o (Some (taken_from b 0))) also s index nodes w.node h' may behind p ∙ go p (cases_object p o))
   where
     drained : Contents
     drained = apply (kinds_of s) (Command 0 w.node) (recorded f s)

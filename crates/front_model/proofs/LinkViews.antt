@@ -1,4 +1,9 @@
 -- What the link's steps show: nothing else, but where the host writes into the store of an object.
+use Rattle.std.specs.Prelude.{if◌then◌else◌}
+use Rattle.std.specs.Option.{option_map}
+use Rattle.front_model.specs.Steps.{heard, heard_store, with_read}
+use Rattle.std.proofs.Common.{Bool}
+use Rattle.std.specs.Prelude.{◌==◌}
 use mathlib.Core.Path.{fun_ext}
 use Rattle.std.proofs.Common.{◌≡◌, ◌≢◌, ℕ, ◌+◌, ◌-◌, ◌<◌, ◌≤◌, List, [], ◌∷◌, ◌++◌, length, true, false, cond, eqb, refl, sym, ◌∙◌, ap, arith, inl, inr}
 use Rattle.std.specs.Prelude.{◌⊎◌, ◌&&◌, nat_le, nat_lt, slice_index, Option, Some, None, All, unwrap_or}
@@ -161,8 +166,16 @@ view_wrote f hands s o b at bytes h is clear apart inside = fun_ext (λ q. go q 
 
 -- A read by the host, an answer, a gift
 
-pub view_fetched : (f : Face) (s : Link) (id at : ℕ) (bytes : List ℕ) → view f (fetched s id at bytes) ≡ view f s
-view_fetched f s id at bytes = ap {B = Object → ℕ → ℕ} (λ (l : List Item) o. content_in (kinds_of s) (eval (kinds_of s) (l ++ commands 0 (in_order f))) (f.objects o)) (log_then s.mine (HostRead id at bytes) ∙ append-nil (log_of s.mine))
+content_heard : (kinds : ℕ → Kind) (c : Contents) (id : ℕ) (v : Option Stored) → content_in kinds c (option_map (heard_store id) v) ≡ content_in kinds c v
+content_heard kinds c id None = refl
+content_heard kinds c id (Some b) = go (b.handle == id)
+  where
+    go : (e : Bool) → content_in kinds c (Some (if e then (record b { slot = heard b.slot }) else b)) ≡ content_in kinds c (Some b)
+    go true = refl
+    go false = refl
+
+pub view_fetched : (f : Face) (s : Link) (id at : ℕ) (bytes : List ℕ) → view (with_read f id) (fetched s id at bytes) ≡ view f s
+view_fetched f s id at bytes = fun_ext (λ o. content_heard (kinds_of s) (recorded f (fetched s id at bytes)) id (f.objects o)) ∙ ap {B = Object → ℕ → ℕ} (λ (l : List Item) o. content_in (kinds_of s) (eval (kinds_of s) (l ++ commands 0 (in_order f))) (f.objects o)) (log_then s.mine (HostRead id at bytes) ∙ append-nil (log_of s.mine))
 
 pub view_learns : (f : Face) (s t : Link) → Learns s t → view f t ≡ view f s
 view_learns f s t learns = ap (view f) learns.rest

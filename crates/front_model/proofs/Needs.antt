@@ -70,22 +70,22 @@ module _ (f : Face) (hands : Hands) (s : Link) (h : Holds f hands s) where
   hand_has_batch id slot index at none some = slot_has_batch id slot index (h.hands_stand id slot at).stands none some
 
   -- no batch and no pending node uses a handle that was just made
-  pub fresh_untouched : (id index : ℕ) (kind : Kind) → hands id ≡ Some (fresh_slot kind) → nodes_touch (f.pending index) id ≡ false
+  pub fresh_untouched : (id index : ℕ) (kind : Kind) → hands id ≡ Some (fresh_slot id kind) → nodes_touch (f.pending index) id ≡ false
   fresh_untouched id index kind at = false_from_ne_true (nodes_touch (f.pending index) id) (λ touch.
-      let n : 0 ≡ f.last index + 1 = (h.hands_stand id (fresh_slot kind) at).stands.used index ∙ cond-true (nodes_touch (f.pending index) id) (f.last index + 1) (last_use s.mine index id) touch in
+      let n : 0 ≡ f.last index + 1 = (h.hands_stand id (fresh_slot id kind) at).stands.used index ∙ cond-true (nodes_touch (f.pending index) id) (f.last index + 1) (last_use s.mine index id) touch in
       absurd (omega (arith, n)))
 
-  fresh_unused : (id index : ℕ) (kind : Kind) → hands id ≡ Some (fresh_slot kind) → last_use s.mine index id ≡ 0
+  fresh_unused : (id index : ℕ) (kind : Kind) → hands id ≡ Some (fresh_slot id kind) → last_use s.mine index id ≡ 0
   fresh_unused id index kind at =
-      sym ((h.hands_stand id (fresh_slot kind) at).stands.used index ∙ cond-false (nodes_touch (f.pending index) id) (f.last index + 1) (last_use s.mine index id) (fresh_untouched id index kind at))
+      sym ((h.hands_stand id (fresh_slot id kind) at).stands.used index ∙ cond-false (nodes_touch (f.pending index) id) (f.last index + 1) (last_use s.mine index id) (fresh_untouched id index kind at))
 
   has_range : (id len at size : ℕ) → s.kinds id ≡ Some (Buffer len) → 1 ≤ size → at + size ≤ len → HasRange (s.kinds id) at size
   has_range id len at size is some fits = subst (λ k. HasRange k at size) (sym is) (some, fits)
 
-  pub may_write_fresh : (id len at size : ℕ) → hands id ≡ Some (fresh_slot (Buffer len)) → 1 ≤ size → at + size ≤ len → HostMay s id at size
+  pub may_write_fresh : (id len at size : ℕ) → hands id ≡ Some (fresh_slot id (Buffer len)) → 1 ≤ size → at + size ≤ len → HostMay s id at size
   may_write_fresh id len at size hand some fits = record {
-    held = (h.hands_stand id (fresh_slot (Buffer len)) hand).stands.held;
-    range = has_range id len at size (h.hands_stand id (fresh_slot (Buffer len)) hand).stands.kind some fits;
+    held = (h.hands_stand id (fresh_slot id (Buffer len)) hand).stands.held;
+    range = has_range id len at size (h.hands_stand id (fresh_slot id (Buffer len)) hand).stands.kind some fits;
     retired = λ index. let none : last_use s.mine index id ≡ 0 = fresh_unused id index (Buffer len) hand in omega (arith, none);
   }
 

@@ -1,4 +1,10 @@
 -- The steps on one object keep what holds: it begins and ends, and what waits on it is put and taken out.
+use Rattle.std.specs.Prelude.{unwrap_or}
+use Rattle.barriers.specs.Trackers.{new_tracker}
+use Rattle.barriers.specs.Recording.{handle}
+use Rattle.front_model.specs.Face.{is_image}
+use Rattle.front_model.specs.Stands.{IsTrackedBy}
+use Rattle.vk_types.specs.declared.handles.Kind.TheVariants as kinds
 use Rattle.std.proofs.Common.{◌≡◌, ◌≢◌, ℕ, [], length, refl, sym, ◌∙◌, ap, subst, inl, inr}
 use Rattle.std.specs.Prelude.{◌⊎◌, Option, Some, None, IsSome, slice_get}
 use Rattle.std.proofs.lemmas.Bool.{cases_eq}
@@ -24,7 +30,7 @@ IsHere hands v id = IsSome (hands id) ⊎ ((b : Stored) × (v ≡ Some b) × Has
 
 -- nothing but an object is another one
 pub object_apart : (f : Face) (s : Link) (o : Object) (c : Option Stored) (id : ℕ) → SameSlot f (with_object f o c) s s id
-object_apart f s o c id = record { held = refl; kind = refl; uses = λ index. refl }
+object_apart f s o c id = record { held = refl; kind = refl; uses = λ index. refl; tracks = λ x b k. k }
 
 -- One object and the hands change, and the handles of the others do not.
 pub exchanged : (f : Face) (hands after : Hands) (s : Link) (o : Object) (c : Option Stored) (also : ℕ → Owner)
@@ -39,6 +45,7 @@ exchanged f hands after s o c also stands hands_stand known h others =
     record {
       sound = h.sound;
       recordable = h.recordable;
+      fenced = h.fenced;
       apart = h.apart;
       fits = h.fits;
       none_empty = h.none_empty;
@@ -143,7 +150,7 @@ ended_holds f hands s o b h at clear =
 
 -- An update waits
 
-pub staged_holds : (f : Face) (hands : Hands) (s : Link) (o : Object) (b : Stored) (id : ℕ) (kind : Kind) (node : Node) → Holds f hands s → f.objects o ≡ Some b → hands id ≡ Some (fresh_slot kind)
+pub staged_holds : (f : Face) (hands : Hands) (s : Link) (o : Object) (b : Stored) (id : ℕ) (kind : Kind) (node : Node) → Holds f hands s → f.objects o ≡ Some b → hands id ≡ Some (fresh_slot id kind)
     → NodeFits s.kinds node → NoneEmpty node → IsUpdate (Some id) b.handle node.op
     → Holds (with_object f o (Some (with_waiting b (record { staging = Some id; node = node })))) (put hands id None) s
 staged_holds f hands s o b id kind node h at hand fits some update =
@@ -153,11 +160,11 @@ staged_holds f hands s o b id kind node h at hand fits some update =
     let place : ℕ = length b.waiting in
     let also : ℕ → Owner = put h.owner id (Staging o place) in
     let u = h.objects o b at in
-    let v = h.hands_stand id (fresh_slot kind) hand in
+    let v = h.hands_stand id (fresh_slot id kind) hand in
     let same : (j : ℕ) → SameSlot f g s s j = object_apart f s o (Some c) in
     let other : (j : ℕ) → h.owner j ≢ InHand → also j ≡ h.owner j = λ j ne. put-other h.owner id (Staging o place) j (λ e. ne (ap h.owner e ∙ v.owned)) in
     let last : WaitingStands g s also o b.handle place w = record {
-      staging = record { held = v.stands.held; owned = put-same h.owner id (Staging o place); unused = λ index. sym (v.stands.used index) };
+      staging = record { held = v.stands.held; owned = put-same h.owner id (Staging o place); unused = λ index. sym (v.stands.used index); untracked = subst (λ b. IsTrackedBy f s (new_tracker (handle id) b) id) (sym (ap (λ k. is_image (unwrap_or k (kinds.Buffer 0))) v.stands.kind)) v.stands.tracked };
       fits = fits;
       none_empty = some;
       update = update;

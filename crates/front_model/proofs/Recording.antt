@@ -1,4 +1,16 @@
 -- Recording nodes, and handing the pending nodes of a context to the back, keep what holds.
+use Rattle.std.specs.Prelude.{fold}
+use Rattle.std.specs.List.{flat_map, AllByRecursion}
+use Rattle.vk_types.specs.declared.handles.HandleId.{HandleId}
+use Rattle.barriers.specs.declared.tracker.Tracker.{Tracker}
+use Rattle.barriers.specs.Licence.{Use}
+use Rattle.barriers.specs.Trackers.{Tracks, taken}
+use Rattle.barriers.specs.Logs.{uses_in}
+use Rattle.barriers.specs.Recording.{handle, AreFenced}
+use Rattle.front_model.specs.Stands.{is_image_of, own_uses, uses_of}
+use Rattle.front_model.proofs.Tracking.{by_none, uses_with, GoesAlong, NodesMay, middle_first, last_between}
+use Rattle.std.proofs.lemmas.List.{append-nil}
+use Rattle.std.proofs.lemmas.List.Elements.{recursion_from_All}
 use Rattle.std.proofs.Common.{◌≡◌, ◌≢◌, ℕ, ◌+◌, ◌<◌, ◌≤◌, ◌==◌, Bool, true, false, cond, max, List, [], ◌∷◌, ◌++◌, length, refl, sym, ◌∙◌, ap, subst, arith, inl, inr, length-append}
 use Rattle.std.specs.Prelude.{◌⊎◌, ◌&&◌, ◌||◌, All}
 use Rattle.std.specs.Option.{option_map}
@@ -19,8 +31,20 @@ use Rattle.front_model.specs.Steps.{noted, noted_store, with_nodes, noted_hands,
 use Rattle.front_model.proofs.Base.{put-same, put-other, put_at, put_holds, map_is, map_some, some_is, nodes_touch-append}
 use Rattle.front_model.proofs.Uses.{log_then, number_then, use_then, use_apart}
 use Rattle.front_model.proofs.Sounds.{recordable_nodes}
-use Rattle.front_model.proofs.Orders.{Mutual, ChangePlaces, none_left, none_right, apart_left, apart_right, apart_turned, split, sound_flushed, recordable_flushed, sound_recorded, recordable_recorded}
+use Rattle.front_model.proofs.Orders.{Mutual, ChangePlaces, Split, each-append, none_left, none_right, apart_left, apart_right, apart_turned, split, before, behind, order_now, order_with, before_all, behind_all, sound_flushed, recordable_flushed, sound_recorded, recordable_recorded}
 use Rattle.front_model.proofs.Standing.{SameSlot, waiting_kept, stored_kept, hand_kept, staging_stands}
+
+-- What the laws of uses say
+
+abbrev pub TracksAlong : Type 0
+TracksAlong = (t : Tracker) (id : HandleId) (image : Bool) → GoesAlong (Tracks t id image)
+
+abbrev pub FencedAlong : Type 0
+FencedAlong = (id : HandleId) (image : Bool) → GoesAlong (AreFenced id image)
+
+abbrev pub NodesTracked : Type 0
+NodesTracked = (t : Tracker) (id : HandleId) (image : Bool) (uses : List Use) (nodes : List Node) → Tracks t id image uses →
+    Tracks (fold taken t (uses_in (commands 0 nodes) id.0)) id image (uses ++ uses_in (commands 0 nodes) id.0)
 
 -- The pending nodes become a batch
 
@@ -72,6 +96,44 @@ module _ (f : Face) (hands : Hands) (s : Link) (index : ℕ) (batch : Batch) (h 
   log_now : log_of (enqueued s batch).mine ≡ log_of s.mine ++ commands 0 (f.pending index)
   log_now = log_then s.mine (Enqueued batch) ∙ ap (λ nodes. log_of s.mine ++ commands 0 nodes) next.all
 
+  -- what holds of the uses of an object, in whatever order, holds of them still
+  flushed_along : NodesMay → (X : List Use → Type 0) → GoesAlong X → (j : ℕ) → X (uses_of f s j) → X (uses_of (flushed f index) (enqueued s batch) j)
+  flushed_along may X along j x =
+      subst X (sym now)
+      (middle_first X along may (flat_map (own_uses j) s.mine) j a (f.pending index) b
+      (each-append NoneEmpty a b some_a some_b) (some index) some_b
+      (behind_all f.pending (indexes_of f.group) index sp (NoConflict (f.pending index)) (none_right (f.pending index)) (apart_right (f.pending index)) (λ i ne. h.apart index i (λ e. ne (sym e))))
+      (apart_left a b (f.pending index)
+      (before_all f.pending (indexes_of f.group) index sp (λ l. NoConflict l (f.pending index)) tt (λ ys zs. apart_left ys zs (f.pending index)) (λ i ne. h.apart i index ne))
+      (behind_all f.pending (indexes_of f.group) index sp (λ l. NoConflict l (f.pending index)) tt (λ ys zs. apart_left ys zs (f.pending index)) (λ i ne. h.apart i index ne)))
+      (subst (λ l. X (flat_map (own_uses j) s.mine ++ uses_in (commands 0 l) j)) (order_now f.pending (indexes_of f.group) index sp) x))
+    where
+      sp : Split (indexes_of f.group) index
+      sp = split f.group index own
+
+      a : List Node
+      a = before f.pending (indexes_of f.group) index (split f.group index own)
+
+      b : List Node
+      b = behind f.pending (indexes_of f.group) index (split f.group index own)
+
+      some : (i : ℕ) → AllByRecursion NoneEmpty (f.pending i)
+      some i = recursion_from_All NoneEmpty (f.pending i) (h.none_empty i)
+
+      some_a : AllByRecursion NoneEmpty (before f.pending (indexes_of f.group) index (split f.group index own))
+      some_a = before_all f.pending (indexes_of f.group) index (split f.group index own) (AllByRecursion NoneEmpty) tt (each-append NoneEmpty) (λ i ne. recursion_from_All NoneEmpty (f.pending i) (h.none_empty i))
+
+      some_b : AllByRecursion NoneEmpty (behind f.pending (indexes_of f.group) index (split f.group index own))
+      some_b = behind_all f.pending (indexes_of f.group) index (split f.group index own) (AllByRecursion NoneEmpty) tt (each-append NoneEmpty) (λ i ne. recursion_from_All NoneEmpty (f.pending i) (h.none_empty i))
+
+      now : uses_of (flushed f index) (enqueued s batch) j
+          ≡ (flat_map (own_uses j) s.mine ++ uses_in (commands 0 (f.pending index)) j)
+          ++ uses_in (commands 0 (before f.pending (indexes_of f.group) index (split f.group index own) ++ behind f.pending (indexes_of f.group) index (split f.group index own))) j
+      now =
+          uses_with (flushed f index) s (Enqueued batch) j
+          ∙ (ap (λ l. (flat_map (own_uses j) s.mine ++ uses_in (commands 0 l) j) ++ uses_in (commands 0 (in_order (flushed f index))) j) next.all
+          ∙ ap (λ l. (flat_map (own_uses j) s.mine ++ uses_in (commands 0 (f.pending index)) j) ++ uses_in (commands 0 l) j) (order_with f.pending (indexes_of f.group) index (split f.group index own) []))
+
   past_now : (id i number : ℕ) → IsPastUse f s id i number → IsPastUse (flushed f index) (enqueued s batch) id i number
   past_now id i number past = go (cases_eq i index) past
     where
@@ -90,14 +152,15 @@ module _ (f : Face) (hands : Hands) (s : Link) (index : ℕ) (batch : Batch) (h 
       go (inr ne) (inl low) = let now : last_number (batches_of (enqueued s batch).mine) i ≡ last_number (batches_of s.mine) i = number_other i ne in inl (omega (arith, low, now))
       go (inr ne) (inr new) = inr (new.0, new.1 ∙ ap (λ n. n + 1) (sym (put-other f.last index (f.last index + 1) i ne)), ap (λ nodes. nodes_touch nodes id) (put-other f.pending index [] i ne) ∙ new.2)
 
-  pub enqueued_holds : ChangePlaces → BatchLow → batch.number < 18446744073709551615 → Holds (flushed f index) hands (enqueued s batch)
-  enqueued_holds change low room =
+  pub enqueued_holds : ChangePlaces → BatchLow → NodesMay → TracksAlong → FencedAlong → batch.number < 18446744073709551615 → Holds (flushed f index) hands (enqueued s batch)
+  enqueued_holds change low may along fenced room =
       let g : Face = flushed f index in
       let t : Link = enqueued s batch in
-      let same : (j : ℕ) → SameSlot f g s t j = λ j. record { held = refl; kind = refl; uses = flushed_use j } in
+      let same : (j : ℕ) → SameSlot f g s t j = λ j. record { held = refl; kind = refl; uses = flushed_use j; tracks = λ x b k. flushed_along may (Tracks x (handle j) b) (along x (handle j) b) j k } in
       record {
         sound = subst (λ l. IsSound (l ++ commands 0 (in_order g))) (sym log_now) (sound_flushed f.pending (indexes_of f.group) index (split f.group index own) (log_of s.mine) change h.apart h.none_empty h.sound);
         recordable = subst (λ l. AreRecordable (l ++ commands 0 (in_order g))) (sym log_now) (recordable_flushed f.pending (indexes_of f.group) index (split f.group index own) (log_of s.mine) h.recordable);
+        fenced = λ j. flushed_along may (AreFenced (handle j) (is_image_of s j)) (fenced (handle j) (is_image_of s j)) j (h.fenced j);
         apart = λ i j ne. put_holds (λ l. NoConflict l (g.pending j)) f.pending index [] i (λ e. none_left (g.pending j))
             (λ other. put_holds (NoConflict (f.pending i)) f.pending index [] j (λ e. none_right (f.pending i)) (λ other. h.apart i j ne));
         fits = λ i. put_holds (All (NodeFits s.kinds)) f.pending index [] i (λ e. All-nil (NodeFits s.kinds)) (λ ne. h.fits i);
@@ -135,7 +198,17 @@ module _ (f : Face) (hands : Hands) (s : Link) (index : ℕ) (batch : Batch) (h 
 
 -- Nodes are recorded
 
-module _ (f : Face) (hands : Hands) (s : Link) (index : ℕ) (nodes : List Node) (h : Holds f hands s) (may : MayRecord f hands s index nodes) where
+module _ (f : Face) (hands : Hands) (s : Link) (index : ℕ) (nodes : List Node) (h : Holds f hands s) (may : MayRecord f hands s index nodes) (turn : Mutual) (places : NodesMay) (along : TracksAlong) (tracked : NodesTracked) where
+  -- what holds of the uses of an object with those by the nodes behind them, in whatever order, holds of them then
+  recorded_along : (X : List Use → Type 0) → GoesAlong X → (j : ℕ) → X (uses_of f s j ++ uses_in (commands 0 nodes) j) → X (uses_of (with_nodes f index nodes) s j)
+  recorded_along X goes j x =
+      subst (λ l. X (flat_map (own_uses j) s.mine ++ uses_in (commands 0 l) j)) (sym (order_with f.pending (indexes_of f.group) index (split f.group index may.of_group) (f.pending index ++ nodes)))
+      (last_between X goes places (flat_map (own_uses j) s.mine) j (before f.pending (indexes_of f.group) index (split f.group index may.of_group)) (f.pending index) (behind f.pending (indexes_of f.group) index (split f.group index may.of_group)) nodes
+      (behind_all f.pending (indexes_of f.group) index (split f.group index may.of_group) (AllByRecursion NoneEmpty) tt (each-append NoneEmpty) (λ i ne. recursion_from_All NoneEmpty (f.pending i) (h.none_empty i)))
+      (recursion_from_All NoneEmpty nodes may.none_empty)
+      (behind_all f.pending (indexes_of f.group) index (split f.group index may.of_group) (λ l. NoConflict l nodes) tt (λ ys zs. apart_left ys zs nodes) (λ i ne. apart_turned turn nodes (f.pending i) (may.apart i ne)))
+      (subst (λ l. X ((flat_map (own_uses j) s.mine ++ uses_in (commands 0 l) j) ++ uses_in (commands 0 nodes) j)) (order_now f.pending (indexes_of f.group) index (split f.group index may.of_group)) x))
+
   -- what they touch is held
   target_held : (id : ℕ) → IsTarget f hands id → s.held id ≡ true
   target_held id (inl hand) = let slot = some_is (hands id) hand in (h.hands_stand id slot.0 slot.1).stands.held
@@ -184,7 +257,14 @@ module _ (f : Face) (hands : Hands) (s : Link) (index : ℕ) (nodes : List Node)
           ∙ is ∙ ap (λ b. cond b (f.last i + 1) (last_use s.mine i j)) (sym (touch_other j i ne))
 
   noted_slot : (j : ℕ) (slot : Slot) → SlotStands f s j slot → SlotStands (with_nodes f index nodes) s j (noted index (f.last index + 1) nodes j slot)
-  noted_slot j slot stands = record { held = stands.held; kind = stands.kind; used = λ i. noted_use j i (slot.used i) (stands.used i) }
+  noted_slot j slot stands = record {
+    held = stands.held;
+    kind = stands.kind;
+    used = λ i. noted_use j i (slot.used i) (stands.used i);
+    tracked =
+        let tracker : Tracker = fold taken slot.tracker (uses_in (commands 0 nodes) j) in
+        recorded_along (Tracks tracker (handle j) (is_image_of s j)) (along tracker (handle j) (is_image_of s j)) j (tracked slot.tracker (handle j) (is_image_of s j) (uses_of f s j) nodes stands.tracked);
+  }
 
   -- a handle that they do not touch is as before
   apart_slot : (j : ℕ) → nodes_touch nodes j ≡ false → SameSlot f (with_nodes f index nodes) s s j
@@ -192,6 +272,8 @@ module _ (f : Face) (hands : Hands) (s : Link) (index : ℕ) (nodes : List Node)
     held = refl;
     kind = refl;
     uses = λ i. sym (noted_use j i (use_of f s j i) refl) ∙ cond-false ((i == index) && nodes_touch nodes j) (f.last index + 1) (use_of f s j i) (and_right (i == index) (nodes_touch nodes j) none);
+    tracks = λ x b k. recorded_along (Tracks x (handle j) b) (along x (handle j) b) j
+        (subst (Tracks x (handle j) b) (sym (append-nil (uses_of f s j)) ∙ ap (λ us. uses_of f s j ++ us) (sym (by_none nodes j none))) k);
   }
 
   noted_stored : (o : Object) (b : Stored) → StoredStands f s h.owner o b → StoredStands (with_nodes f index nodes) s h.owner o (noted_store index (f.last index + 1) nodes b)
@@ -213,13 +295,14 @@ module _ (f : Face) (hands : Hands) (s : Link) (index : ℕ) (nodes : List Node)
   touch_more i id touch (inl e) = subst (λ k. nodes_touch ((with_nodes f index nodes).pending k) id ≡ true) (sym e) (touch_now id ∙ or_left (nodes_touch (f.pending index) id) (nodes_touch nodes id) (ap (λ k. nodes_touch (f.pending k) id) (sym e) ∙ touch))
   touch_more i id touch (inr ne) = touch_other id i ne ∙ touch
 
-  pub recorded_holds : ChangePlaces → Mutual → Holds (with_nodes f index nodes) (noted_hands hands index (f.last index + 1) nodes) s
-  recorded_holds change turn =
+  pub recorded_holds : ChangePlaces → FencedAlong → Holds (with_nodes f index nodes) (noted_hands hands index (f.last index + 1) nodes) s
+  recorded_holds change fenced =
       let g : Face = with_nodes f index nodes in
       let both : List Node = f.pending index ++ nodes in
       record {
-        sound = sound_recorded f.pending (indexes_of f.group) index (split f.group index may.of_group) (log_of s.mine) change turn h.none_empty nodes may.none_empty may.apart may.sound;
+        sound = sound_recorded f.pending (indexes_of f.group) index (split f.group index may.of_group) (log_of s.mine) change turn h.none_empty nodes may.none_empty may.apart may.ordered.sound;
         recordable = recordable_recorded f.pending (indexes_of f.group) index (split f.group index may.of_group) (log_of s.mine) nodes (recordable_nodes nodes may.recordable) h.recordable;
+        fenced = λ j. recorded_along (AreFenced (handle j) (is_image_of s j)) (fenced (handle j) (is_image_of s j)) j (may.ordered.fenced j);
         apart = λ i j ne. put_holds (λ l. NoConflict l (g.pending j)) f.pending index both i
             (λ e. put_holds (NoConflict both) f.pending index both j (λ e'. absurd (ne (e ∙ sym e')))
             (λ ne'. apart_left (f.pending index) nodes (f.pending j) (h.apart index j (λ e'. ne' (sym e'))) (may.apart j ne')))

@@ -1,6 +1,14 @@
 -- What of a front that holds stays where its handles are as before.
-use Rattle.std.proofs.Common.{◌≡◌, ◌≢◌, ℕ, true, false, get_or, refl, sym, ◌∙◌, ap, subst, inl, inr}
-use Rattle.std.specs.Prelude.{◌⊎◌, Option, Some, None, IfSome, IsSome}
+use Rattle.std.specs.Prelude.{unwrap_or}
+use Rattle.barriers.specs.declared.tracker.Tracker.{Tracker}
+use Rattle.barriers.specs.Trackers.{Tracks, new_tracker}
+use Rattle.barriers.specs.Recording.{handle}
+use Rattle.front_model.specs.Face.{is_image}
+use Rattle.front_model.specs.Stands.{is_image_of, uses_of, IsTrackedBy}
+use Rattle.std.proofs.Common.{Bool}
+use Rattle.vk_types.specs.declared.handles.Kind.TheVariants as kinds
+use Rattle.std.proofs.Common.{◌≡◌, ◌≢◌, ℕ, true, get_or, refl, sym, ◌∙◌, ap, subst, inl, inr}
+use Rattle.std.specs.Prelude.{◌⊎◌, Option, Some, None, IfSome}
 use Rattle.vk_types.specs.declared.handles.Kind.{Kind}
 use Rattle.vk_types.specs.declared.ops.Op.{Op}
 use Rattle.vk_types.specs.declared.ops.Op.TheVariants.{CopyBuffer, BufferToImage, ImageToBuffer, CopyImage, BlitImage, ClearImage, FillBuffer, PassPart}
@@ -66,14 +74,22 @@ module _ (old new : ℕ → Option Kind) (grows : KindsGrow old new) where
   pub fits_more : (n : Node) → NodeFits old n → NodeFits new n
   fits_more n fits = op_fits_more n.op fits
 
--- A handle is held as before, with the kind and the uses as before.
+-- A handle is held as before, with the kind and the uses as before, and what tracked it tracks it.
 pub record SameSlot (f g : Face) (s t : Link) (id : ℕ) : Type 0 where
   pub held : t.held id ≡ s.held id
   pub kind : t.kinds id ≡ s.kinds id
   pub uses : (index : ℕ) → use_of g t id index ≡ use_of f s id index
+  pub tracks : (x : Tracker) (is_image : Bool) → Tracks x (handle id) is_image (uses_of f s id) → Tracks x (handle id) is_image (uses_of g t id)
+
+-- whether it is an image is as before
+pub same_image : (f g : Face) (s t : Link) (id : ℕ) → SameSlot f g s t id → is_image_of t id ≡ is_image_of s id
+same_image f g s t id same = ap (λ k. is_image (unwrap_or k (kinds.Buffer 0))) same.kind
+
+pub tracked_kept : (f g : Face) (s t : Link) (id : ℕ) (x : Tracker) → SameSlot f g s t id → IsTrackedBy f s x id → IsTrackedBy g t x id
+tracked_kept f g s t id x same k = subst (λ b. Tracks x (handle id) b (uses_of g t id)) (sym (same_image f g s t id same)) (same.tracks x (is_image_of s id) k)
 
 pub slot_kept : (f g : Face) (s t : Link) (id : ℕ) (slot : Slot) → SameSlot f g s t id → SlotStands f s id slot → SlotStands g t id slot
-slot_kept f g s t id slot same stands = record { held = same.held ∙ stands.held; kind = same.kind ∙ stands.kind; used = λ index. stands.used index ∙ sym (same.uses index) }
+slot_kept f g s t id slot same stands = record { held = same.held ∙ stands.held; kind = same.kind ∙ stands.kind; used = λ index. stands.used index ∙ sym (same.uses index); tracked = tracked_kept f g s t id slot.tracker same stands.tracked }
 
 module _ (f g : Face) (s t : Link) (owner also : ℕ → Owner) (fit : KindsGrow s.kinds t.kinds) where
   staging_kept : (o : Object) (place place' : ℕ) (staging : Option ℕ)
@@ -84,6 +100,7 @@ module _ (f g : Face) (s t : Link) (owner also : ℕ → Owner) (fit : KindsGrow
     held = (same id refl).held ∙ stands.held;
     owned = owned id refl stands.owned;
     unused = λ index. (same id refl).uses index ∙ stands.unused index;
+    untracked = subst (λ b. IsTrackedBy g t (new_tracker (handle id) b) id) (sym (same_image f g s t id (same id refl))) (tracked_kept f g s t id (new_tracker (handle id) (is_image_of s id)) (same id refl) stands.untracked);
   }
 
   -- what waits stands, also at another place

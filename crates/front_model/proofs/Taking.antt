@@ -1,4 +1,10 @@
 -- What waits on an object is taken out, and what waits behind it moves down by one place.
+use Rattle.std.specs.Prelude.{unwrap_or}
+use Rattle.barriers.specs.Trackers.{new_tracker}
+use Rattle.barriers.specs.Recording.{handle}
+use Rattle.front_model.specs.Face.{is_image}
+use Rattle.front_model.specs.Stands.{IsTrackedBy}
+use Rattle.vk_types.specs.declared.handles.Kind.TheVariants as kinds
 use Rattle.std.proofs.Common.{◌≡◌, ◌≢◌, ℕ, ◌-◌, ◌<◌, ◌≤◌, zero, suc, cond, List, [], ◌∷◌, refl, sym, ◌∙◌, ap, subst, arith, inl, inr}
 use Rattle.std.specs.Prelude.{◌⊎◌, ◌&&◌, nat_lt, Some, None, slice_get}
 use Rattle.std.proofs.lemmas.Bool.{cases_eq, cond-true, cond-false, and_left, and_right, and_from, lt-ltb, le-ltb}
@@ -103,7 +109,7 @@ module _ (owner also : ℕ → Owner) (o : Object) (place : ℕ) (others : (j : 
 
 pub taken_holds : (f : Face) (hands : Hands) (s : Link) (o : Object) (b : Stored) (place id : ℕ) (node : Node) (kind : Kind) → Holds f hands s → f.objects o ≡ Some b
     → slice_get b.waiting place ≡ Some (record { staging = Some id; node = node }) → s.kinds id ≡ Some kind
-    → Holds (with_object f o (Some (taken_from b place))) (put hands id (Some (fresh_slot kind))) s
+    → Holds (with_object f o (Some (taken_from b place))) (put hands id (Some (fresh_slot id kind))) s
 taken_holds f hands s o b place id node kind h at waits is_kind =
     let w : Waiting = record { staging = Some id; node = node } in
     let c : Stored = taken_from b place in
@@ -113,22 +119,22 @@ taken_holds f hands s o b place id node kind h at waits is_kind =
     let v : StagingStands f s h.owner o place id = staging_stands f s h.owner o b.handle place id w refl (u.waiting place w waits) in
     let others : (j : ℕ) → h.owner j ≢ Staging o place → also j ≡ moved o place (h.owner j)
     = λ j ne. put-other (λ i. moved o place (h.owner i)) id InHand j (λ e. ne (ap h.owner e ∙ v.owned)) in
-    exchanged f hands (put hands id (Some (fresh_slot kind))) s o (Some c) also
+    exchanged f hands (put hands id (Some (fresh_slot id kind))) s o (Some c) also
     (λ d is. subst (StoredStands g s also o) (same_Some c d is) (left_stored h.owner also o place others f s b u))
-    (hands_got f g hands s h.owner also id (fresh_slot kind) (object_apart f s o (Some c)) (λ j ne of. owner_hand h.owner also o place others j of)
+    (hands_got f g hands s h.owner also id (fresh_slot id kind) (object_apart f s o (Some c)) (λ j ne of. owner_hand h.owner also o place others j of)
     (record {
-      stands = record { held = v.held; kind = is_kind; used = λ index. sym (v.unused index) };
+      stands = record { held = v.held; kind = is_kind; used = λ index. sym (v.unused index); tracked = subst (λ b. IsTrackedBy f s (new_tracker (handle id) b) id) (ap (λ k. is_image (unwrap_or k (kinds.Buffer 0))) is_kind) v.untracked };
       owned = put-same (λ i. moved o place (h.owner i)) id InHand;
     }) h.hands_stand)
     (λ j known. elim known [
-      | inl hand ↦ inl (put-some hands id (fresh_slot kind) j hand)
+      | inl hand ↦ inl (put-some hands id (fresh_slot id kind) j hand)
       | inr has ↦ let is : has.0 ≡ b = same_Some has.0 b (sym has.1 ∙ at) in elim (subst (λ d. HasHandle d j) is has.2) [
         | inl e ↦ inr (c, refl, inl e)
         | inr e ↦ elim (cases_eq e.0 place) [
           | inl here ↦
               let both : e.1 ≡ w = same_Some e.1 w (sym e.2 ∙ ap (slice_get b.waiting) here ∙ waits) in
               let id_is : j ≡ id = same_Some j id (sym e.3 ∙ ap (λ (x : Waiting). x.staging) both) in
-              inl (is_some_of (put hands id (Some (fresh_slot kind)) j) (fresh_slot kind) (put_at hands id (Some (fresh_slot kind)) j id_is))
+              inl (is_some_of (put hands id (Some (fresh_slot id kind)) j) (fresh_slot id kind) (put_at hands id (Some (fresh_slot id kind)) j id_is))
           | inr there ↦ let now = left_at place b.waiting e.0 e.1 there e.2 in inr (c, refl, inr (now.0, e.1, now.1, e.3))
         ]
       ]

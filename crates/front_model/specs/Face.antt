@@ -1,9 +1,10 @@
 -- What the front of a share group has, without where it lies in memory, and what its objects then hold.
-use Rattle.std.specs.Prelude.{◌≡◌, ℕ, ◌*◌, ◌==◌, Bool, false, if◌then◌else◌, Option, Some, None, List, ◌++◌, map}
+use Rattle.std.specs.Prelude.{◌≡◌, ℕ, ◌*◌, ◌==◌, Bool, true, false, if◌then◌else◌, Option, Some, None, List, ◌++◌, map}
 use Rattle.std.specs.List.{flat_map, list_any, range_with_len}
 use Rattle.std.specs.Option.{option_map}
 use Rattle.cells.specs.Contents.{UNDEFINED}
 use Rattle.vk_types.specs.declared.handles.Kind.{Kind}
+use Rattle.vk_types.specs.declared.handles.Kind.TheVariants as kind
 use Rattle.vk_types.specs.declared.regions.Rect.{Rect}
 use Rattle.vk_types.specs.declared.ops.Op.{Op}
 use Rattle.vk_types.specs.declared.ops.Op.TheVariants as op
@@ -11,6 +12,7 @@ use Rattle.vk_types.specs.declared.ops.Node.{Node}
 use Rattle.vk_model.specs.Cells.{Contents}
 use Rattle.vk_model.specs.Log.{Item, commands, touches_object}
 use Rattle.vk_model.specs.Meaning.{eval, after_all}
+use Rattle.barriers.specs.declared.tracker.Tracker.{Tracker}
 use Rattle.back_core.specs.Own.{log_of}
 use Rattle.back_core.specs.Link.{Link, kinds_of}
 
@@ -50,10 +52,15 @@ IsUpdate staging handle (op.FillBuffer dst dst_at size byte) = ⊥
 IsUpdate staging handle (op.PassPart _ _ image _ _ _) = ⊥
 IsUpdate staging handle (op.Barrier b) = ⊥
 
--- a handle's kind, and for each index the number of the last batch that uses it, or 0
+-- a handle's kind, for each index the number of the last batch that uses it, or 0, and what its tracker knows
 pub record Slot : Type 0 where
   pub kind : Kind
   pub used : ℕ → ℕ
+  pub tracker : Tracker
+
+abbrev pub is_image : Kind → Bool
+is_image (kind.Buffer size) = false
+is_image (kind.Image format width height) = true
 
 -- an object that has a store: its handle, and what waits on it, in order
 pub record Stored : Type 0 where

@@ -1,18 +1,26 @@
 -- When a front stands on what its group sees of the back.
-use Rattle.std.specs.Prelude.{◌≡◌, ◌≢◌, ℕ, ◌+◌, ◌<◌, ◌≤◌, ◌⊎◌, true, false, if◌then◌else◌, Option, Some, None, IfSome, IsSome, List, [], length, slice_get, All}
+use Rattle.std.specs.Prelude.{◌≡◌, ◌≢◌, ℕ, ◌+◌, ◌<◌, ◌≤◌, ◌⊎◌, ◌==◌, Bool, true, false, if◌then◌else◌, Option, Some, None, IfSome, IsSome, List, [], ◌∷◌, ◌++◌, length, slice_get, All}
+use Rattle.std.specs.List.{flat_map}
 use Rattle.vk_types.specs.declared.batches.QueueSerial.{QueueSerial}
 use Rattle.vk_types.specs.declared.ops.Op.{Op}
 use Rattle.vk_types.specs.declared.ops.Op.TheVariants as op
 use Rattle.vk_types.specs.declared.ops.Node.{Node}
-use Rattle.vk_types.specs.Touches.{barrier_of}
-use Rattle.vk_model.specs.Log.{Item, Command, IsSound, NoneEmpty, NoConflict, NamesAll}
+use Rattle.vk_types.specs.declared.regions.Touch.{Touch}
+use Rattle.vk_types.specs.Accesses.{host_read}
+use Rattle.vk_types.specs.Touches.{whole}
+use Rattle.vk_model.specs.Log.{Item, Command, commands, IsSound, NoneEmpty, NoConflict}
 use Rattle.vk_model.specs.Fitting.{NodeFits}
 use Rattle.resource_use.specs.Uses.{number_of}
 use Rattle.submit_queue.specs.Histories.{last_number}
-use Rattle.back_core.specs.Own.{log_of, batches_of, last_use, IsReadable}
-use Rattle.back_core.specs.Link.{Link}
+use Rattle.barriers.specs.declared.tracker.Tracker.{Tracker}
+use Rattle.barriers.specs.Licence.{Use, Accessed, barrier_due}
+use Rattle.barriers.specs.Trackers.{Tracks, new_tracker}
+use Rattle.barriers.specs.Logs.{uses_in}
+use Rattle.barriers.specs.Recording.{handle, AreFenced}
+use Rattle.back_core.specs.Own.{Own, HostWrote, Enqueued, HostRead, log_of, batches_of, last_use, IsReadable}
+use Rattle.back_core.specs.Link.{Link, kinds_of}
 use Rattle.back_core.specs.Needs.{IsOfGroup, MayTouch}
-use Rattle.front_model.specs.Face.{Object, Waiting, Slot, Stored, Face, Outline, outline_at, whole_log, view, nodes_touch, IsUpdate}
+use Rattle.front_model.specs.Face.{Object, Waiting, Slot, Stored, Face, Outline, is_image, outline_at, in_order, whole_log, view, nodes_touch, IsUpdate}
 
 -- the handles that are in no object, since a call is making them or is about to give them away
 abbrev pub Hands : Type 0
@@ -29,21 +37,41 @@ pub data Owner : Type 0 where
   Staging : Object → (place : ℕ) → Owner
   InHand : Owner
 
+-- whether a handle is that of an image
+abbrev pub is_image_of : Link → ℕ → Bool
+is_image_of s id = is_image (kinds_of s id)
+
+-- the uses of an object by an item of the group's list: by the nodes of a batch, and a read by the host
+abbrev pub own_uses : ℕ → Own → List Use
+own_uses id (HostWrote i at bytes) = []
+own_uses id (Enqueued batch) = uses_in (commands 0 batch.nodes) id
+own_uses id (HostRead i at bytes) = if i == id then Accessed host_read ∷ [] else []
+
+-- the uses of an object by all that was recorded
+abbrev pub uses_of : Face → Link → ℕ → List Use
+uses_of f s id = flat_map (own_uses id) s.mine ++ uses_in (commands 0 (in_order f)) id
+
+-- what its tracker knows of a handle is what was recorded
+abbrev pub IsTrackedBy : Face → Link → Tracker → ℕ → Type 0
+IsTrackedBy f s tracker id = Tracks tracker (handle id) (is_image_of s id) (uses_of f s id)
+
 -- the number of the last batch of an index that uses the handle, where the pending nodes are the next batch
 abbrev pub use_of : Face → Link → ℕ → ℕ → ℕ
 use_of f s id index = if nodes_touch (f.pending index) id then f.last index + 1 else last_use s.mine index id
 
--- a handle that is held, with its kind and its last uses
+-- a handle that is held, with its kind, its last uses and its tracker
 pub record SlotStands (f : Face) (s : Link) (id : ℕ) (slot : Slot) : Type 0 where
   pub held : s.held id ≡ true
   pub kind : s.kinds id ≡ Some slot.kind
   pub used : (index : ℕ) → slot.used index ≡ use_of f s id index
+  pub tracked : IsTrackedBy f s slot.tracker id
 
 -- a staging buffer, which nothing that was recorded uses
 pub record StagingStands (f : Face) (s : Link) (owner : ℕ → Owner) (o : Object) (place id : ℕ) : Type 0 where
   pub held : s.held id ≡ true
   pub owned : owner id ≡ Staging o place
   pub unused : (index : ℕ) → use_of f s id index ≡ 0
+  pub untracked : IsTrackedBy f s (new_tracker (handle id) (is_image_of s id)) id
 
 -- what waits is an update of its object, and fits it
 pub record WaitingStands (f : Face) (s : Link) (owner : ℕ → Owner) (o : Object) (handle place : ℕ) (w : Waiting) : Type 0 where
@@ -75,10 +103,6 @@ IsPastUse f s id index number =
     (number ≤ last_number (batches_of s.mine) index)
     ⊎ (IsOfGroup f.group index × (number ≡ f.last index + 1) × (nodes_touch (f.pending index) id ≡ true))
 
--- each barrier names all kinds of access on both sides
-abbrev pub HaveFullBarriers : List Item → Type 0
-HaveFullBarriers log = (k queue : ℕ) (n : Node) → slice_get log k ≡ Some (Command queue n) → IfSome (barrier_of n) NamesAll
-
 -- The operation writes nothing but what it reads: no constants, by which a front could bring in what it computed on the host.
 -- Clears of images, also those of passes, will be counted once they are recorded.
 abbrev pub WritesNoConstants : Op → Type 0
@@ -92,10 +116,10 @@ WritesNoConstants (op.FillBuffer dst dst_at size byte) = ⊥
 WritesNoConstants (op.PassPart _ _ image _ _ _) = ⊥
 WritesNoConstants (op.Barrier b) = Unit {0}
 
--- what a front may record: a barrier names all kinds of access on both sides, and no node writes constants
+-- what a front may record: a node that writes no constants, and touches no empty range
 pub record IsRecordable (n : Node) : Type 0 where
-  pub full : IfSome (barrier_of n) NamesAll
   pub plain : WritesNoConstants n.op
+  pub some : NoneEmpty n
 
 -- a front may record each command of the log
 abbrev pub AreRecordable : List Item → Type 0
@@ -106,6 +130,8 @@ pub record Holds (f : Face) (hands : Hands) (s : Link) : Type 0 where
   -- the log: its nodes are in order, a front may record them, and nodes of two contexts that are pending do not conflict
   pub sound : IsSound (whole_log f s)
   pub recordable : AreRecordable (whole_log f s)
+  -- each barrier was licensed, and orders what came before it
+  pub fenced : (id : ℕ) → AreFenced (handle id) (is_image_of s id) (uses_of f s id)
   pub apart : (i j : ℕ) → i ≢ j → NoConflict (f.pending i) (f.pending j)
   pub fits : (index : ℕ) → All (NodeFits s.kinds) (f.pending index)
   pub none_empty : (index : ℕ) → All NoneEmpty (f.pending index)
@@ -127,6 +153,14 @@ pub record Holds (f : Face) (hands : Hands) (s : Link) : Type 0 where
   pub low : (index id : ℕ) → last_use s.mine index id ≤ last_number (batches_of s.mine) index
   pub foreign : (index id : ℕ) → (IsOfGroup f.group index → ⊥) → last_use s.mine index id ≡ 0
 
+-- what a read by the host touches
+abbrev pub host_touch : ℕ → Touch
+host_touch id = whole (handle id) host_read None
+
+-- no barrier is due before a read by the host
+abbrev pub IsKnownToHost : Face → Link → ℕ → Type 0
+IsKnownToHost f s id = barrier_due (handle id) (is_image_of s id) (uses_of f s id) (host_touch id) ≡ None
+
 -- Nothing waits on the object, nothing pending touches it, each batch that does is known to be retired, and what nodes wrote
 -- was made known to the host. So the host may read and write it.
 pub record IsQuiet (f : Face) (s : Link) (o : Object) : Type 0 where
@@ -135,6 +169,7 @@ pub record IsQuiet (f : Face) (s : Link) (o : Object) : Type 0 where
   pub clear : stored.waiting ≡ []
   pub untouched : (index : ℕ) → nodes_touch (f.pending index) stored.handle ≡ false
   pub retired : (index : ℕ) → last_use s.mine index stored.handle ≤ s.done index
+  pub known : IsKnownToHost f s stored.handle
   pub readable : (at size : ℕ) → IsReadable (log_of s.mine) stored.handle at size
 
 -- What is left when a call ends early: each handle of the front is held, and is there once, so that it can be let go.

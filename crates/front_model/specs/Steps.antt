@@ -1,5 +1,6 @@
 -- The steps of which moves are made.
-use Rattle.std.specs.Prelude.{◌≡◌, ◌≢◌, ℕ, zero, suc, ◌+◌, ◌<◌, ◌==◌, ◌&&◌, ◌⊎◌, true, if◌then◌else◌, Option, Some, None, List, [], ◌∷◌, ◌++◌, length, map, All, IsSome}
+use Rattle.std.specs.Prelude.{◌≡◌, ◌≢◌, ℕ, zero, suc, ◌+◌, ◌<◌, ◌==◌, ◌&&◌, ◌⊎◌, true, if◌then◌else◌, Option, Some, None, List, [], ◌∷◌, ◌++◌, fold, length, All, IsSome}
+use Rattle.std.specs.List.{AllByRecursion}
 use Rattle.std.specs.Option.{option_map}
 use Rattle.vk_types.specs.declared.handles.HandleId.{HandleId}
 use Rattle.vk_types.specs.declared.handles.Kind.{Kind}
@@ -7,22 +8,26 @@ use Rattle.vk_types.specs.declared.ops.Op.TheVariants as op
 use Rattle.vk_types.specs.declared.ops.Node.{Node}
 use Rattle.vk_types.specs.declared.batches.Batch.{Batch}
 use Rattle.vk_types.specs.declared.batches.QueueSerial.{QueueSerial}
-use Rattle.vk_types.specs.Accesses.{all_access}
-use Rattle.vk_types.specs.Touches.{touches}
+use Rattle.vk_types.specs.declared.accesses.Access.{Access}
+use Rattle.vk_types.specs.Accesses.{host_read}
 use Rattle.vk_model.specs.Log.{commands, IsSound, NoneEmpty, NoConflict}
 use Rattle.vk_model.specs.Fitting.{NodeFits}
 use Rattle.vk_device.specs.Order.{IsOfOneQueue}
 use Rattle.resource_use.specs.Uses.{number_of}
+use Rattle.barriers.specs.Licence.{Accessed}
+use Rattle.barriers.specs.Trackers.{new_tracker, taken}
+use Rattle.barriers.specs.Logs.{uses_in}
+use Rattle.barriers.specs.Recording.{handle, AreFenced}
 use Rattle.back_core.specs.Link.{Link, put}
 use Rattle.back_core.specs.Needs.{IsOfGroup}
-use Rattle.front_model.specs.Face.{Object, Waiting, Slot, Stored, Face, put_object, nodes_touch, whole_log}
-use Rattle.front_model.specs.Stands.{Hands, IsRecordable}
+use Rattle.front_model.specs.Face.{Object, Waiting, Slot, Stored, Face, is_image, put_object, nodes_touch, whole_log}
+use Rattle.front_model.specs.Stands.{Hands, IsRecordable, is_image_of, uses_of}
 
 -- Handles
 
 -- a handle that was just made
-abbrev pub fresh_slot : Kind → Slot
-fresh_slot kind = record { kind = kind; used = λ index. 0 }
+abbrev pub fresh_slot : ℕ → Kind → Slot
+fresh_slot id kind = record { kind = kind; used = λ index. 0; tracker = new_tracker (handle id) (is_image kind) }
 
 -- the uses name for each index the number of the slot
 abbrev pub AreUses : List QueueSerial → Slot → Type 0
@@ -32,7 +37,10 @@ AreUses uses slot = (index : ℕ) → number_of uses index ≡ slot.used index
 
 -- the slot of a handle after nodes were recorded for the batch of this number
 abbrev pub noted : ℕ → ℕ → List Node → ℕ → Slot → Slot
-noted index number nodes id slot = record slot { used = λ i. if (i == index) && nodes_touch nodes id then number else slot.used i }
+noted index number nodes id slot = record slot {
+  used = λ i. if (i == index) && nodes_touch nodes id then number else slot.used i;
+  tracker = fold taken slot.tracker (uses_in (commands 0 nodes) id);
+}
 
 abbrev pub noted_store : ℕ → ℕ → List Node → Stored → Stored
 noted_store index number nodes b = record b { slot = noted index number nodes b.handle b.slot }
@@ -51,10 +59,15 @@ noted_hands hands index number nodes = λ id. option_map (noted index number nod
 abbrev pub IsTarget : Face → Hands → ℕ → Type 0
 IsTarget f hands id = IsSome (hands id) ⊎ ((o : Object) × (b : Stored) × (f.objects o ≡ Some b) × (b.handle ≡ id))
 
+-- Behind all that was recorded the nodes are in order, and each barrier among them is licensed.
+pub record IsOrdered (f : Face) (s : Link) (nodes : List Node) : Type 0 where
+  pub sound : IsSound (whole_log f s ++ commands 0 nodes)
+  pub fenced : (id : ℕ) → AreFenced (handle id) (is_image_of s id) (uses_of f s id ++ uses_in (commands 0 nodes) id)
+
 -- nodes that may be recorded in the context of an index
 pub record MayRecord (f : Face) (hands : Hands) (s : Link) (index : ℕ) (nodes : List Node) : Type 0 where
   pub of_group : IsOfGroup f.group index
-  pub sound : IsSound (whole_log f s ++ commands 0 nodes)
+  pub ordered : IsOrdered f s nodes
   pub recordable : All IsRecordable nodes
   pub fits : All (NodeFits s.kinds) nodes
   pub none_empty : All NoneEmpty nodes
@@ -62,17 +75,37 @@ pub record MayRecord (f : Face) (hands : Hands) (s : Link) (index : ℕ) (nodes 
   pub apart : (i : ℕ) → i ≢ index → NoConflict nodes (f.pending i)
   pub targets : (id : ℕ) → nodes_touch nodes id ≡ true → IsTarget f hands id
 
--- a barrier of an object that names all kinds of access on both sides, and leaves the layout
-abbrev pub full_barrier : HandleId → Node
-full_barrier id = record { op = op.Barrier (record { id = id; first = all_access; second = all_access; layouts = None }) }
+-- a barrier that leaves the layout
+abbrev pub plain_barrier : HandleId → Access → Access → Node
+plain_barrier id first second = record { op = op.Barrier (record { id = id; first = first; second = second; layouts = None }) }
 
--- a node behind full barriers of all that it touches
-abbrev pub fenced : Node → List Node
-fenced n = map (λ t. full_barrier t.id) (touches n) ++ n ∷ []
+pub record KeepsContents (n : Node) : Type 0 where
+  pub id : HandleId
+  pub first : Access
+  pub second : Access
+  pub is : n ≡ plain_barrier id first second
 
--- no touch of the node names a layout
-abbrev pub HasNoLayout : Node → Type 0
-HasNoLayout n = All (λ t. t.layout ≡ None) (touches n)
+-- the node behind barriers that leave all contents
+pub record IsBehind (nodes : List Node) (n : Node) : Type 0 where
+  pub fences : List Node
+  pub is : nodes ≡ fences ++ n ∷ []
+  pub keep : AllByRecursion KeepsContents fences
+
+-- Reading by the host
+
+-- the slot of a handle that the host read
+abbrev pub heard : Slot → Slot
+heard slot = record slot { tracker = taken slot.tracker (Accessed host_read) }
+
+abbrev pub heard_store : ℕ → Stored → Stored
+heard_store id b = if b.handle == id then record b { slot = heard b.slot } else b
+
+-- the front after the host read a handle
+abbrev pub with_read : Face → ℕ → Face
+with_read f id = record f { objects = λ o. option_map (heard_store id) (f.objects o) }
+
+abbrev pub heard_hands : Hands → ℕ → Hands
+heard_hands hands id = λ i. if i == id then option_map heard (hands i) else hands i
 
 -- Flushing
 

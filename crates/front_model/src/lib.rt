@@ -19,4 +19,4 @@ pub use state_laws::{
     numbers_not_given_are_free, reads_through_a_map_answer,
 };
 pub use step_laws::{quiet_objects_stay, steps_hold, steps_may};
-pub use view_laws::{fenced_nodes_stay_sound, front_steps_show, link_steps_show};
+pub use view_laws::{due_nodes_may_be_recorded, front_steps_show, link_steps_show};

@@ -1,21 +1,23 @@
 // Each step keeps what holds of a front.
 ghost use Rattle.std.specs.Prelude.{◌≡◌, ◌≢◌, ℕ, ◌+◌, ◌<◌, ◌≤◌, ◌⊎◌, List, [], ◌∷◌, ◌++◌, length, slice_get, Option, Some, None, true, false};
 ghost use Rattle.vk_types.specs.declared.handles.Kind.{Kind};
-ghost use Rattle.vk_types.specs.declared.handles.HandleId.{HandleId};
 ghost use Rattle.vk_types.specs.declared.batches.Batch.{Batch};
 ghost use Rattle.vk_types.specs.declared.batches.QueueSerial.{QueueSerial};
 ghost use Rattle.vk_types.specs.declared.ops.Node.{Node};
-ghost use Rattle.vk_model.specs.Log.{Item, NoneEmpty, commands};
+ghost use Rattle.vk_model.specs.Log.{NoneEmpty};
 ghost use Rattle.vk_model.specs.Fitting.{NodeFits};
-ghost use Rattle.back_core.specs.Own.{IsReadable};
+ghost use Rattle.back_core.specs.Own.{log_of, IsReadable};
 ghost use Rattle.back_core.specs.Link.{Link, IsNew, put, created, wrote, enqueued, fetched, gave, abandoned};
 ghost use Rattle.back_core.specs.Needs.{IsOfGroup, IsFresh, HostMay, MayEnqueue, MayGive, HasBatch};
 ghost use Rattle.back_core.specs.Answers.{Learns};
 ghost use Rattle.front_model.specs.Face.{Object, Waiting, Slot, Stored, Face, nodes_touch, IsUpdate};
-ghost use Rattle.front_model.specs.Stands.{Hands, no_hands, Holds, Owns, IsQuiet, new_face};
-ghost use Rattle.front_model.specs.Steps.{fresh_slot, AreUses, full_barrier, with_nodes, noted_hands, MayRecord, IsNextBatch, flushed, with_object, stored_as, with_waiting, taken_from};
+ghost use Rattle.front_model.specs.Stands.{Hands, no_hands, Holds, Owns, IsQuiet, IsKnownToHost, new_face};
+ghost use Rattle.front_model.specs.Steps.{fresh_slot, AreUses, IsTarget, with_read, heard_hands, with_nodes, noted_hands, MayRecord, IsNextBatch, flushed, with_object, stored_as, with_waiting, taken_from};
 
 use back_core::uses_are_low;
+use barriers::{
+    host_reads_are_uses, trackers_take_uses, uses_change_places, writes_are_made_known,
+};
 use vk_model::{conflict_is_mutual, lists_change_places};
 
 /// A front with nothing in it holds on a link that its group has not used. Then each step keeps what holds.
@@ -23,10 +25,12 @@ pub fn steps_hold()
     ensures starts { (s : Link) (group : ℕ) → group < 8 → IsNew s group → Holds (new_face group) no_hands s }
     // the link
     ensures creates { (f : Face) (hands : Hands) (s : Link) (id : ℕ) (kind : Kind) → Holds f hands s → IsFresh s id →
-        Holds f (put hands id (Some (fresh_slot kind))) (created s id kind) }
+        Holds f (put hands id (Some (fresh_slot id kind))) (created s id kind) }
     ensures writes { (f : Face) (hands : Hands) (s : Link) (id at : ℕ) (bytes : List ℕ) → Holds f hands s →
         ((index : ℕ) → nodes_touch (f.pending index) id ≡ false) → Holds f hands (wrote s id at bytes) }
-    ensures fetches { (f : Face) (hands : Hands) (s : Link) (id at : ℕ) (bytes : List ℕ) → Holds f hands s → Holds f hands (fetched s id at bytes) }
+    ensures fetches { (f : Face) (hands : Hands) (s : Link) (id at : ℕ) (bytes : List ℕ) → Holds f hands s → IsTarget f hands id →
+        ((index : ℕ) → nodes_touch (f.pending index) id ≡ false) → IsKnownToHost f s id →
+        Holds (with_read f id) (heard_hands hands id) (fetched s id at bytes) }
     ensures learns { (f : Face) (hands : Hands) (s t : Link) → Holds f hands s → Learns s t → Holds f hands t }
     ensures enqueues { (f : Face) (hands : Hands) (s : Link) (index : ℕ) (batch : Batch) → Holds f hands s → IsOfGroup f.group index →
         IsNextBatch f index batch → batch.number < 18446744073709551615 → Holds (flushed f index) hands (enqueued s batch) }
@@ -40,12 +44,12 @@ pub fn steps_hold()
     ensures ends { (f : Face) (hands : Hands) (s : Link) (o : Object) (b : Stored) → Holds f hands s → f.objects o ≡ Some b → b.waiting ≡ [] →
         Holds (with_object f o None) (put hands b.handle (Some b.slot)) s }
     ensures stages { (f : Face) (hands : Hands) (s : Link) (o : Object) (b : Stored) (id : ℕ) (kind : Kind) (node : Node) → Holds f hands s →
-        f.objects o ≡ Some b → hands id ≡ Some (fresh_slot kind) → NodeFits s.kinds node → NoneEmpty node →
+        f.objects o ≡ Some b → hands id ≡ Some (fresh_slot id kind) → NodeFits s.kinds node → NoneEmpty node →
         IsUpdate (Some id) b.handle node.op →
         Holds (with_object f o (Some (with_waiting b (record { staging = Some id; node = node })))) (put hands id None) s }
     ensures takes { (f : Face) (hands : Hands) (s : Link) (o : Object) (b : Stored) (place id : ℕ) (node : Node) (kind : Kind) → Holds f hands s →
         f.objects o ≡ Some b → slice_get b.waiting place ≡ Some (record { staging = Some id; node = node }) → s.kinds id ≡ Some kind →
-        Holds (with_object f o (Some (taken_from b place))) (put hands id (Some (fresh_slot kind))) s }
+        Holds (with_object f o (Some (taken_from b place))) (put hands id (Some (fresh_slot id kind))) s }
     // the same of a clear, which has no staging buffer
     ensures stages_clear { (f : Face) (hands : Hands) (s : Link) (o : Object) (b : Stored) (node : Node) → Holds f hands s → f.objects o ≡ Some b →
         NodeFits s.kinds node → NoneEmpty node → IsUpdate None b.handle node.op →
@@ -56,6 +60,9 @@ pub fn steps_hold()
     lists_change_places();
     conflict_is_mutual();
     uses_are_low();
+    uses_change_places();
+    trackers_take_uses();
+    host_reads_are_uses();
 }
 
 /// What the calls of the link need holds.
@@ -66,9 +73,9 @@ pub fn steps_may()
         hands id ≡ Some slot → AreUses uses slot → MayGive s id uses }
     ensures wait { (f : Face) (hands : Hands) (s : Link) (o : Object) (b : Stored) (index : ℕ) → Holds f hands s → f.objects o ≡ Some b →
         nodes_touch (f.pending index) b.handle ≡ false → 1 ≤ b.slot.used index → HasBatch s index (b.slot.used index) }
-    ensures write_fresh { (f : Face) (hands : Hands) (s : Link) (id len at size : ℕ) → Holds f hands s → hands id ≡ Some (fresh_slot (Kind.Buffer len)) →
+    ensures write_fresh { (f : Face) (hands : Hands) (s : Link) (id len at size : ℕ) → Holds f hands s → hands id ≡ Some (fresh_slot id (Kind.Buffer len)) →
         1 ≤ size → at + size ≤ len → HostMay s id at size }
-    ensures untouched { (f : Face) (hands : Hands) (s : Link) (id index : ℕ) (kind : Kind) → Holds f hands s → hands id ≡ Some (fresh_slot kind) →
+    ensures untouched { (f : Face) (hands : Hands) (s : Link) (id index : ℕ) (kind : Kind) → Holds f hands s → hands id ≡ Some (fresh_slot id kind) →
         nodes_touch (f.pending index) id ≡ false }
     ensures host { (f : Face) (hands : Hands) (s : Link) (o : Object) (quiet : IsQuiet f s o) (len at size : ℕ) → Holds f hands s →
         quiet.stored.slot.kind ≡ Kind.Buffer len → 1 ≤ size → at + size ≤ len → HostMay s quiet.stored.handle at size }
@@ -98,7 +105,8 @@ pub fn quiet_objects_stay()
     ensures creates { (f : Face) (hands : Hands) (s : Link) (o : Object) (id : ℕ) (kind : Kind) → Holds f hands s → IsFresh s id → IsQuiet f s o →
         IsQuiet f (created s id kind) o }
     ensures writes { (f : Face) (s : Link) (o : Object) (id at : ℕ) (bytes : List ℕ) → IsQuiet f s o → IsQuiet f (wrote s id at bytes) o }
-    ensures fetches { (f : Face) (s : Link) (o : Object) (id at : ℕ) (bytes : List ℕ) → IsQuiet f s o → IsQuiet f (fetched s id at bytes) o }
+    ensures fetches { (f : Face) (s : Link) (o : Object) (id at : ℕ) (bytes : List ℕ) → ((index : ℕ) → nodes_touch (f.pending index) id ≡ false) →
+        IsQuiet f s o → IsQuiet (with_read f id) (fetched s id at bytes) o }
     ensures learns { (f : Face) (s t : Link) (o : Object) → Learns s t → IsQuiet f s o → IsQuiet f t o }
     ensures enqueues { (f : Face) (s : Link) (o : Object) (index : ℕ) (batch : Batch) → IsNextBatch f index batch → IsQuiet f s o →
         IsQuiet (flushed f index) (enqueued s batch) o }
@@ -106,6 +114,10 @@ pub fn quiet_objects_stay()
     ensures records { (f : Face) (s : Link) (o : Object) (index : ℕ) (nodes : List Node) → (quiet : IsQuiet f s o) →
         nodes_touch nodes quiet.stored.handle ≡ false → IsQuiet (with_nodes f index nodes) s o }
     ensures others { (f : Face) (s : Link) (o q : Object) (b : Option Stored) → IsQuiet f s o → o ≢ q → IsQuiet (with_object f q b) s o }
-    // a barrier behind all that was recorded makes what nodes wrote known to the host
-    ensures handed_over { (log : List Item) (id : HandleId) (at size : ℕ) → IsReadable (log ++ commands 0 (full_barrier id ∷ [])) id.0 at size }
-{}
+    // where no barrier is due before a read by the host, what nodes wrote was made known to it
+    ensures known { (f : Face) (hands : Hands) (s : Link) (id at size : ℕ) → Holds f hands s → ((index : ℕ) → nodes_touch (f.pending index) id ≡ false) →
+        IsKnownToHost f s id → IsReadable (log_of s.mine) id at size }
+{
+    writes_are_made_known();
+    host_reads_are_uses();
+}

@@ -1,21 +1,33 @@
 // What each step does to what the objects hold.
-ghost use Rattle.std.specs.Prelude.{◌≡◌, ◌≢◌, ℕ, ◌+◌, ◌<◌, ◌≤◌, ◌⊎◌, List, [], ◌∷◌, ◌++◌, length, slice_get, Option, Some, None, true, false, if◌then◌else◌, nat_lt, nat_le, ◌&&◌, ◌-◌, slice_index};
+ghost use Rattle.std.specs.Prelude.{◌≡◌, ◌≢◌, ℕ, ◌+◌, ◌<◌, ◌≤◌, ◌⊎◌, List, [], ◌∷◌, ◌++◌, length, slice_get, Contains, Option, Some, None, true, false, if◌then◌else◌, nat_lt, nat_le, ◌&&◌, ◌-◌, slice_index};
+ghost use Rattle.std.specs.List.{AllByRecursion};
 ghost use Rattle.cells.specs.Contents.{UNDEFINED};
 ghost use Rattle.vk_types.specs.declared.handles.HandleId.{HandleId};
 ghost use Rattle.vk_types.specs.declared.handles.Kind.{Kind};
 ghost use Rattle.vk_types.specs.declared.batches.Batch.{Batch};
 ghost use Rattle.vk_types.specs.declared.batches.QueueSerial.{QueueSerial};
 ghost use Rattle.vk_types.specs.declared.ops.Node.{Node};
-ghost use Rattle.vk_types.specs.Touches.{barrier_of, the_end};
+ghost use Rattle.vk_types.specs.declared.regions.Touch.{Touch};
+ghost use Rattle.vk_types.specs.declared.regions.Barrier.{Barrier};
+ghost use Rattle.vk_types.specs.Touches.{touches, barrier_of, the_end};
 ghost use Rattle.vk_types.specs.declared.ops.Op.TheVariants as op;
-ghost use Rattle.vk_model.specs.Log.{IsSound, IsOneQueue, Item, commands, NoneEmpty, touches_object};
+ghost use Rattle.vk_model.specs.Log.{commands, touches_object};
+ghost use Rattle.barriers.specs.declared.tracker.Tracker.{Tracker};
+ghost use Rattle.barriers.specs.Licence.{Fenced, barrier_due};
+ghost use Rattle.barriers.specs.Trackers.{due_by};
+ghost use Rattle.barriers.specs.Recording.{handle, node_for, with_due, HasLayouts};
 ghost use Rattle.vk_model.specs.Meaning.{after_all};
 ghost use Rattle.back_core.specs.Link.{Link, created, wrote, enqueued, fetched, gave, kinds_of};
 ghost use Rattle.back_core.specs.Needs.{IsOfGroup, IsFresh};
 ghost use Rattle.back_core.specs.Answers.{Learns};
 ghost use Rattle.front_model.specs.Face.{Object, Waiting, Slot, Stored, Face, put_object, view, recorded, nodes_touch, whole_log};
-ghost use Rattle.front_model.specs.Stands.{Hands, no_hands, HaveFullBarriers, AreRecordable, Holds, new_face};
-ghost use Rattle.front_model.specs.Steps.{fresh_slot, with_nodes, MayRecord, IsNextBatch, flushed, with_object, stored_as, with_waiting, taken_from, fenced, full_barrier, HasNoLayout};
+ghost use Rattle.front_model.specs.Stands.{Hands, no_hands, Holds, new_face, is_image_of, uses_of, host_touch, IsTrackedBy};
+ghost use Rattle.front_model.specs.Steps.{fresh_slot, with_nodes, MayRecord, IsNextBatch, flushed, with_object, stored_as, with_waiting, taken_from, with_read, KeepsContents, IsBehind, IsOrdered};
+
+use barriers::{
+    due_barriers_fit, due_barriers_keep_logs_sound, no_barrier_is_licensed_twice,
+    trackers_take_uses,
+};
 
 /// A front with nothing in it shows nothing. The link's steps change no view, but for a write into the store of an object.
 pub fn link_steps_show()
@@ -27,7 +39,7 @@ pub fn link_steps_show()
         b.waiting ≡ [] → ((index : ℕ) → nodes_touch (f.pending index) b.handle ≡ false) → at + length bytes ≤ the_end →
         view f (wrote s b.handle at bytes)
         ≡ put_object (view f s) o (λ i. if nat_le at i && nat_lt i (at + length bytes) then slice_index bytes (i - at) else view f s o i) }
-    ensures fetches { (f : Face) (s : Link) (id at : ℕ) (bytes : List ℕ) → view f (fetched s id at bytes) ≡ view f s }
+    ensures fetches { (f : Face) (s : Link) (id at : ℕ) (bytes : List ℕ) → view (with_read f id) (fetched s id at bytes) ≡ view f s }
     ensures learns { (f : Face) (s t : Link) → Learns s t → view f t ≡ view f s }
     ensures enqueues { (f : Face) (hands : Hands) (s : Link) (index : ℕ) (batch : Batch) → Holds f hands s → IsOfGroup f.group index →
         IsNextBatch f index batch → view (flushed f index) (enqueued s batch) ≡ view f s }
@@ -45,26 +57,27 @@ pub fn front_steps_show()
         ((place id : ℕ) (w : Waiting) → slice_get b.waiting place ≡ Some w → w.staging ≡ Some id → nodes_touch nodes id ≡ false) →
         view (with_nodes f index nodes) s o ≡ view f s o }
     // a copy between two objects on which nothing waits
-    ensures copies { (f : Face) (hands : Hands) (s : Link) (index : ℕ) (o q : Object) (b c : Stored) (src dst : HandleId) (src_at dst_at size : ℕ) → Holds f hands s →
-        MayRecord f hands s index (fenced (record { op = op.CopyBuffer src src_at dst dst_at size })) →
+    ensures copies { (f : Face) (hands : Hands) (s : Link) (index : ℕ) (nodes : List Node) (o q : Object) (b c : Stored) (src dst : HandleId) (src_at dst_at size : ℕ) →
+        Holds f hands s → MayRecord f hands s index nodes → IsBehind nodes (record { op = op.CopyBuffer src src_at dst dst_at size }) →
         f.objects o ≡ Some b → b.waiting ≡ [] → b.handle ≡ src.0 → f.objects q ≡ Some c → c.waiting ≡ [] → c.handle ≡ dst.0 →
         src_at + size ≤ the_end → dst_at + size ≤ the_end →
-        view (with_nodes f index (fenced (record { op = op.CopyBuffer src src_at dst dst_at size }))) s
+        view (with_nodes f index nodes) s
         ≡ put_object (view f s) q (λ i. if nat_le dst_at i && nat_lt i (dst_at + size) then view f s o (src_at + (i - dst_at)) else view f s q i) }
     // a copy from any handle to an object on which nothing waits
-    ensures uploads { (f : Face) (hands : Hands) (s : Link) (index : ℕ) (q : Object) (c : Stored) (src dst : HandleId) (src_at dst_at size : ℕ) → Holds f hands s →
-        MayRecord f hands s index (fenced (record { op = op.CopyBuffer src src_at dst dst_at size })) → f.objects q ≡ Some c → c.waiting ≡ [] → c.handle ≡ dst.0 →
+    ensures uploads { (f : Face) (hands : Hands) (s : Link) (index : ℕ) (nodes : List Node) (q : Object) (c : Stored) (src dst : HandleId) (src_at dst_at size : ℕ) →
+        Holds f hands s → MayRecord f hands s index nodes → IsBehind nodes (record { op = op.CopyBuffer src src_at dst dst_at size }) → f.objects q ≡ Some c → c.waiting ≡ [] → c.handle ≡ dst.0 →
         src_at + size ≤ the_end → dst_at + size ≤ the_end →
-        view (with_nodes f index (fenced (record { op = op.CopyBuffer src src_at dst dst_at size }))) s
+        view (with_nodes f index nodes) s
         ≡ put_object (view f s) q (λ i. if nat_le dst_at i && nat_lt i (dst_at + size) then recorded f s src.0 (src_at + (i - dst_at)) else view f s q i) }
     // the first of what waits on an object, taken and recorded behind barriers
-    ensures drains { (f : Face) (hands also : Hands) (s : Link) (index : ℕ) (o : Object) (b : Stored) (w : Waiting) → Holds f hands s →
+    ensures drains { (f : Face) (hands also : Hands) (s : Link) (index : ℕ) (nodes : List Node) (o : Object) (b : Stored) (w : Waiting) → Holds f hands s →
         f.objects o ≡ Some b → slice_get b.waiting 0 ≡ Some w → barrier_of w.node ≡ None →
-        Holds (with_object f o (Some (taken_from b 0))) also s → MayRecord (with_object f o (Some (taken_from b 0))) also s index (fenced w.node) →
-        view (with_nodes (with_object f o (Some (taken_from b 0))) index (fenced w.node)) s ≡ view f s }
+        Holds (with_object f o (Some (taken_from b 0))) also s → MayRecord (with_object f o (Some (taken_from b 0))) also s index nodes →
+        IsBehind nodes w.node →
+        view (with_nodes (with_object f o (Some (taken_from b 0))) index nodes) s ≡ view f s }
     // barriers alone
-    ensures barrier { (f : Face) (hands : Hands) (s : Link) (index : ℕ) (n : Node) → Holds f hands s → MayRecord f hands s index (n ∷ []) →
-        ((c : ℕ → ℕ → ℕ) → after_all (kinds_of s) (commands 0 (n ∷ [])) c ≡ c) → view (with_nodes f index (n ∷ [])) s ≡ view f s }
+    ensures barriers { (f : Face) (hands : Hands) (s : Link) (index : ℕ) (fences : List Node) → Holds f hands s → MayRecord f hands s index fences →
+        AllByRecursion KeepsContents fences → view (with_nodes f index fences) s ≡ view f s }
     ensures begins { (f : Face) (s : Link) (o : Object) (id : ℕ) (slot : Slot) →
         view (with_object f o (Some (stored_as id slot))) s ≡ put_object (view f s) o (recorded f s id) }
     ensures ends { (f : Face) (s : Link) (o : Object) → view (with_object f o None) s ≡ put_object (view f s) o (λ p. UNDEFINED) }
@@ -81,11 +94,28 @@ pub fn front_steps_show()
         (i : ℕ) → (i < at) ⊎ (at + size ≤ i) → view (with_object f o (Some (taken_from b place))) s o i ≡ view f s o i }
 {}
 
-/// A node behind full barriers of all that it touches keeps a log sound.
-pub fn fenced_nodes_stay_sound()
-    ensures node { (log : List Item) (n : Node) → IsSound log → IsOneQueue log → HaveFullBarriers log → HasNoLayout n → barrier_of n ≡ None → IsSound (log ++ commands 0 (fenced n)) }
-    ensures barrier { (log : List Item) (id : HandleId) → IsSound log → IsOneQueue log → HaveFullBarriers log → IsSound (log ++ commands 0 (full_barrier id ∷ [])) }
-    ensures full { (log : List Item) → AreRecordable log → HaveFullBarriers log }
-    ensures one_queue { (f : Face) (s : Link) → IsOneQueue (whole_log f s) }
-    ensures shows { (kinds : ℕ → Kind) (id : HandleId) (c : ℕ → ℕ → ℕ) → after_all kinds (commands 0 (full_barrier id ∷ [])) c ≡ c }
-{}
+/// A node behind the barriers that are due before it may be recorded, as far as order and licence go, and so may the barrier that is due
+/// before a read by the host.
+pub fn due_nodes_may_be_recorded()
+    ensures node { (f : Face) (hands : Hands) (s : Link) (n : Node) → Holds f hands s → barrier_of n ≡ None → HasLayouts (is_image_of s) n →
+        IsOrdered f s (with_due (is_image_of s) (uses_of f s) n) }
+    ensures host { (f : Face) (hands : Hands) (s : Link) (id : ℕ) → Holds f hands s → is_image_of s id ≡ false →
+        IsOrdered f s (node_for (barrier_due (handle id) (is_image_of s id) (uses_of f s id) (host_touch id))) }
+    // such barriers of buffers leave all contents
+    ensures behind { (f : Face) (s : Link) (n : Node) → HasLayouts (is_image_of s) n → ((t : Touch) → Contains (touches n) t → is_image_of s t.id.0 ≡ false) →
+        barrier_of n ≡ None → IsBehind (with_due (is_image_of s) (uses_of f s) n) n }
+    ensures keeps { (f : Face) (s : Link) (id : ℕ) → is_image_of s id ≡ false →
+        AllByRecursion KeepsContents (node_for (barrier_due (handle id) (is_image_of s id) (uses_of f s id) (host_touch id))) }
+    // behind it no other is due
+    ensures once { (f : Face) (s : Link) (id : ℕ) (barrier : Barrier) → is_image_of s id ≡ false →
+        barrier_due (handle id) (is_image_of s id) (uses_of f s id) (host_touch id) ≡ Some barrier →
+        barrier_due (handle id) (is_image_of s id) (uses_of f s id ++ Fenced barrier ∷ []) (host_touch id) ≡ None }
+    // what a tracker tells is what is due
+    ensures told { (f : Face) (s : Link) (id : ℕ) (t : Tracker) (touch : Touch) → IsTrackedBy f s t id →
+        due_by t touch ≡ barrier_due (handle id) (is_image_of s id) (uses_of f s id) touch }
+{
+    due_barriers_keep_logs_sound();
+    due_barriers_fit();
+    no_barrier_is_licensed_twice();
+    trackers_take_uses();
+}

@@ -1,9 +1,14 @@
 -- The stores of buffers in a front.
+use Rattle.vk_types.specs.declared.accesses.Access.{Access}
+use Rattle.vk_types.specs.declared.regions.Barrier.{Barrier}
+use Rattle.std.proofs.Common.{Bool, true, cond}
+use Rattle.front_moves.specs.Buffers.{used, fenced_in, ChangesOne}
 use Rattle.std.proofs.Common.{◌≡◌, ◌≢◌, ℕ, ◌+◌, ◌<◌, ◌≤◌, ◌==◌, false, [], refl, sym, ◌∙◌, ap, subst, arith, inl, inr}
 use Rattle.std.specs.Prelude.{◌⊎◌, Option, Some, None, IfSome}
 use Rattle.std.specs.Option.{option_map}
 use Rattle.std.proofs.lemmas.Bool.{cases_eq, eq-eqb, ne_eqb}
 use Rattle.std.proofs.lemmas.Option.{same_Some}
+use Rattle.vk_types.specs.declared.batches.QueueSerial.{QueueSerial}
 use Rattle.vk_types.specs.declared.handles.HandleId.{HandleId}
 use Rattle.vk_types.specs.declared.handles.Kind.TheVariants as kind
 use Rattle.vk_types.specs.Touches.{the_end}
@@ -131,3 +136,20 @@ owns_kept old new s keeps owns = record { owner = owns.owner; each = each }
     each (Buffer b) x at = at_buffer b (entry b new) x refl at
     each (Texture t) x bad = cc
     each (Renderbuffer r) x bad = cc
+
+-- a store that took in a barrier, or an access, has its handle still
+pub kept_changed : (b : ℕ) (barrier : Barrier) (serial : QueueSerial) (old new : Entries BufferStore) → ChangesOne b (fenced_in serial barrier) old new → KeepsHandles old new
+kept_changed b barrier serial old new is k = ap (option_map (λ (x : BufferStore). x.handle)) (is k) ∙ go (k == b) (entry k old)
+  where
+    go : (t : Bool) (v : Option BufferStore) → option_map (λ (x : BufferStore). x.handle) (cond t (option_map (fenced_in serial barrier) v) v) ≡ option_map (λ (x : BufferStore). x.handle) v
+    go true None = refl
+    go true (Some x) = refl
+    go false v = refl
+
+pub kept_used : (b : ℕ) (access : Access) (serial : QueueSerial) (old new : Entries BufferStore) → ChangesOne b (used access serial) old new → KeepsHandles old new
+kept_used b access serial old new is k = ap (option_map (λ (x : BufferStore). x.handle)) (is k) ∙ go (k == b) (entry k old)
+  where
+    go : (t : Bool) (v : Option BufferStore) → option_map (λ (x : BufferStore). x.handle) (cond t (option_map (used access serial) v) v) ≡ option_map (λ (x : BufferStore). x.handle) v
+    go true None = refl
+    go true (Some x) = refl
+    go false v = refl

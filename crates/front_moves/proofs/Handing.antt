@@ -1,4 +1,5 @@
 -- Why batches are handed over, seen from before the contexts were flushed.
+use Rattle.vk_types.specs.Touches.{touches}
 use Rattle.std.proofs.Common.{◌≡◌, ◌≢◌, ℕ, ◌<◌, ◌≤◌, lit<, arith, Bool, true, false, List, [], ◌∷◌, length, refl, sym, ap, subst, ◌∙◌}
 use Rattle.std.specs.Prelude.{Option, Some, None, IfSome, IfNone, Contains}
 use Rattle.std.proofs.lemmas.Bool.{false≢true}
@@ -23,11 +24,11 @@ flush_of_some f index why more batch flush = record {
 }
 
 -- what is flushed where a test says that it touches the buffer
-pub is_touching : (f : Face) (index b : ℕ) (test : Bool) → IfSome (f.objects (Buffer b)) (λ x. nodes_touch (f.pending index) x.handle ≡ test) → IfNone (f.objects (Buffer b)) (test ≡ false) →
-    test ≡ true → (batch : Batch) → IsFlushOfSome f index reason.Cross batch → IsTouching f index b batch
-is_touching f index b test some none told batch flush = go (f.objects (Buffer b)) refl some none
+pub is_touching : (f : Face) (index b : ℕ) (why : Reason) (test : Bool) → IfSome (f.objects (Buffer b)) (λ x. nodes_touch (f.pending index) x.handle ≡ test) → IfNone (f.objects (Buffer b)) (test ≡ false) →
+    test ≡ true → (batch : Batch) → IsFlushOfSome f index why batch → IsTouching f index b why batch
+is_touching f index b why test some none told batch flush = go (f.objects (Buffer b)) refl some none
   where
-    go : (o : Option Stored) → f.objects (Buffer b) ≡ o → IfSome o (λ x. nodes_touch (f.pending index) x.handle ≡ test) → IfNone o (test ≡ false) → IsTouching f index b batch
+    go : (o : Option Stored) → f.objects (Buffer b) ≡ o → IfSome o (λ x. nodes_touch (f.pending index) x.handle ≡ test) → IfNone o (test ≡ false) → IsTouching f index b why batch
     go (Some x) is touch absent = record {
       of_index = flush.flush.of_index;
       reaches = record { stored = x; is = is; touches = ap (λ nodes. nodes_touch nodes x.handle) flush.flush.all ∙ touch ∙ told };
@@ -36,7 +37,7 @@ is_touching f index b test some none told batch flush = go (f.objects (Buffer b)
     go None is touch absent = absurd (false≢true (sym absent ∙ told))
 
 -- what another index flushes, after others did
-pub is_cross : (f g : Face) (index other b : ℕ) → g.objects ≡ f.objects → other ≢ index → (batch : Batch) → IsTouching g other b batch → IsCross f index b batch
+pub is_cross : (f g : Face) (index other b : ℕ) → g.objects ≡ f.objects → other ≢ index → (batch : Batch) → IsTouching g other b reason.Cross batch → IsCross f index b batch
 is_cross f g index other b same ne batch is = record { of_other = λ e. ne (sym is.of_index ∙ e); reaches = reaches_before f g b batch same is.reaches; for_reason = is.for_reason }
 
 -- what is flushed where so much is pending
@@ -57,8 +58,8 @@ parting_before f g index some all same more batch (full is) = full is
 pub settles_parting : (f : Face) (index b : ℕ) (batch : Batch) → IsParting f index (b ∷ []) batch → IsSettling f index b batch
 settles_parting f index b batch is = parting is
 
-pub settles_reading : (f g : Face) (index b : ℕ) (batch : Batch) → IsFlushOfSome g index reason.Read batch → IsSettling f index b batch
-settles_reading f g index b batch flush = reading flush.flush.of_index flush.flush.for_reason flush.some
+pub settles_reading : (f g : Face) (index b : ℕ) (batch : Batch) → IsTouching g index b reason.Read batch → IsSettling f index b batch
+settles_reading f g index b batch is = reading is.of_index is.for_reason (λ none. false≢true (sym (ap (λ nodes. nodes_touch nodes is.reaches.stored.handle) none) ∙ is.reaches.touches))
 
 -- of two buffers
 pub first_parts : (f : Face) (index a b : ℕ) (batch : Batch) → IsParting f index (a ∷ []) batch → IsParting f index (a ∷ b ∷ []) batch

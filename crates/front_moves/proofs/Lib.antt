@@ -15,3 +15,6 @@ pub mod Recorded
 pub mod Settling
 pub mod Uploads
 pub mod Waiting
+pub mod Fencing
+pub mod Dues
+pub mod Accessing

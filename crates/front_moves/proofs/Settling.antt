@@ -1,4 +1,4 @@
--- What it comes to that a buffer was flushed behind a barrier and waited for.
+-- What it comes to that what touches a buffer was flushed and waited for.
 use Rattle.std.proofs.Common.{◌≡◌, ◌≢◌, ℕ, List, [], ◌∷◌, ◌++◌, map, refl, sym, ap, subst, ◌∙◌, inl, inr, false}
 use Rattle.std.specs.Prelude.{◌⊎◌, Option, Some, None}
 use Rattle.std.specs.Option.{option_map}
@@ -11,24 +11,31 @@ use Rattle.back_core.specs.Own.{log_of, IsReadable}
 use Rattle.back_core.specs.Link.{Link}
 use Rattle.front_model.specs.Face.{Object, Buffer, Stored, Outline, Part, part_of, Face, outline, outline_at, view, nodes_touch}
 use Rattle.front_model.specs.Stands.{Moved, IsQuiet}
-use Rattle.front_model.specs.Steps.{full_barrier}
 use Rattle.front_model.proofs.Base.{put_at, put-other, cases_object}
-use Rattle.front_moves.specs.Core.{IsFlushed, IsParted, IsUntouched, IsRetired, EndsWithBarrier, HasStore, IsQuietBut}
+use Rattle.front_moves.specs.Core.{OnlyFlushed, IsApart, IsParted, IsUntouched, IsOpen, HasStore, IsQuietBut}
 
 -- what is shown and quiet is as before
 abbrev pub KeepsAll : Face → Face → Link → Link → Type 0
 KeepsAll f g s t = Moved g t (view f s) (outline_at f) (IsQuiet f s)
 
--- the index was flushed, and nothing else that is pending touched the buffer
-pub untouched_after : (f g : Face) (index b : ℕ) → IsFlushed f g index → IsParted f index b → IsUntouched g b
-untouched_after f g index b flushed parted i x is = go (cases_eq i index)
+-- the index was flushed where it touched the buffer, and nothing else that is pending touched that
+pub untouched_after : (f g : Face) (index b : ℕ) → OnlyFlushed f g → IsApart g index b → IsParted f index b → IsUntouched g b
+untouched_after f g index b flushed apart parted i x is = go (cases_eq i index)
   where
     was : f.objects (Buffer b) ≡ Some x
     was = ap (λ o. o (Buffer b)) (sym flushed.objects) ∙ is
 
+    kept : i ≢ index → (g.pending i ≡ f.pending i) ⊎ (g.pending i ≡ []) → nodes_touch (g.pending i) x.handle ≡ false
+    kept other (inl same) = ap (λ nodes. nodes_touch nodes x.handle) same ∙ parted i x other was
+    kept other (inr none) = ap (λ nodes. nodes_touch nodes x.handle) none
+
     go : (i ≡ index) ⊎ (i ≢ index) → nodes_touch (g.pending i) x.handle ≡ false
-    go (inl same) = ap (λ nodes. nodes_touch nodes x.handle) (ap (λ p. p i) flushed.pending ∙ put_at f.pending index [] i same)
-    go (inr other) = ap (λ nodes. nodes_touch nodes x.handle) (ap (λ p. p i) flushed.pending ∙ put-other f.pending index [] i other) ∙ parted i x other was
+    go (inl same) = ap (λ j. nodes_touch (g.pending j) x.handle) same ∙ apart x is
+    go (inr other) = kept other (flushed.pending i)
+
+-- what is told of the buffer's tracker is told still
+pub open_after : (f g : Face) (b : ℕ) → OnlyFlushed f g → IsOpen f b → IsOpen g b
+open_after f g b flushed is_open x is = is_open x (ap (λ o. o (Buffer b)) (sym flushed.objects) ∙ is)
 
 unmapped : {A B : Type 0} (f : A → B) (xs : List A) → map f xs ≡ [] → xs ≡ []
 unmapped f [] e = refl
@@ -46,31 +53,6 @@ store_of f b len has = go (f.objects (Buffer b)) refl has
         (x : Stored) × (f.objects (Buffer b) ≡ Some x) × (x.waiting ≡ [])
     go (Some x) is has = (x, is, unmapped (λ w. part_of w.node.op) x.waiting (ap waiting_in has))
     go None is has = absurd cc
-
--- what a barrier behind all that was recorded does
-abbrev pub HandsOver : Type 0
-HandsOver = (log : List Item) (nodes : List Node) (id : HandleId) (at size : ℕ) → IsReadable (log ++ commands 0 (nodes ++ full_barrier id ∷ [])) id.0 at size
-
-pub readable_after : (f g : Face) (s t : Link) (index b : ℕ) (x : Stored) → HandsOver → IsFlushed f g index → EndsWithBarrier f index b →
-    log_of t.mine ≡ log_of s.mine ++ commands 0 (f.pending index) → g.objects (Buffer b) ≡ Some x → (at size : ℕ) → IsReadable (log_of t.mine) x.handle at size
-readable_after f g s t index b x hands flushed behind log is at size =
-    let last = behind x (ap (λ o. o (Buffer b)) (sym flushed.objects) ∙ is) in
-    subst (λ h. IsReadable (log_of t.mine) h at size) last.3
-    (subst (λ l. IsReadable l last.1.0 at size) (sym (log ∙ ap (λ nodes. log_of s.mine ++ commands 0 nodes) last.2)) (hands (log_of s.mine) last.0 last.1 at size))
-
--- A buffer of which the last node is a barrier was flushed and waited for.
-pub quiet_after : (f g : Face) (s t u : Link) (index b len : ℕ) → HandsOver → HasStore g b len → IsFlushed f g index → IsParted f index b → EndsWithBarrier f index b →
-    log_of t.mine ≡ log_of s.mine ++ commands 0 (f.pending index) → u.mine ≡ t.mine → IsRetired g u b → IsQuiet g u (Buffer b)
-quiet_after f g s t u index b len hands has flushed parted behind log same retired =
-    let x = store_of g b len has in
-    record {
-      stored = x.0;
-      is = x.1;
-      clear = x.2;
-      untouched = λ i. untouched_after f g index b flushed parted i x.0 x.1;
-      retired = λ i. retired i x.0 x.1;
-      readable = λ at size. subst (λ mine. IsReadable (log_of mine) x.0.handle at size) (sym same) (readable_after f g s t index b x.0 hands flushed behind log x.1 at size);
-    }
 
 -- the four moves one after another
 pub settled : (f g h k : Face) (s t u v : Link) (b : ℕ) → KeepsAll f g s t → Moved h t (view g t) (outline_at g) (IsQuietBut g t b) → KeepsAll h k t u → KeepsAll k k u v →

@@ -2,18 +2,18 @@
 use Rattle.std.specs.Prelude.{◌≡◌, ◌≢◌, ℕ, ◌-◌, ◌≤◌, ◌*◌, ◌⊎◌, false, if◌then◌else◌, Option, Some, None, List, [], ◌∷◌, ◌++◌, slice_index_or}
 use Rattle.std.specs.Option.{option_map}
 use Rattle.cells.specs.Contents.{UNDEFINED, cell_at, in_range}
-use Rattle.vk_types.specs.declared.handles.HandleId.{HandleId}
 use Rattle.vk_types.specs.declared.handles.Kind.TheVariants as kind
 use Rattle.vk_types.specs.declared.ops.Node.{Node}
 use Rattle.tables.specs.Table.{Entries}
 use Rattle.queue_serials.specs.Indexes.{IndexTable, last_of}
 use Rattle.buffer_helper.specs.Buffers.{BufferStore}
 use Rattle.vk_model.specs.Log.{commands}
-use Rattle.back_core.specs.Own.{log_of, last_use, IsReadable}
+use Rattle.barriers.specs.Trackers.{due_by}
+use Rattle.back_core.specs.Own.{log_of, last_use}
 use Rattle.back_core.specs.Link.{Link, put}
 use Rattle.front_model.specs.Face.{Object, Buffer, Stored, Outline, Face, outline_at, nodes_touch, recorded, view}
-use Rattle.front_model.specs.Stands.{Hands, no_hands, Holds, Moved, IsQuiet}
-use Rattle.front_model.specs.Steps.{fresh_slot, full_barrier}
+use Rattle.front_model.specs.Stands.{Hands, no_hands, Holds, Moved, IsQuiet, host_touch}
+use Rattle.front_model.specs.Steps.{fresh_slot}
 use Rattle.front_model.specs.Wanted.{buffer_kind}
 use Rattle.front_moves.specs.Buffers.{objects_of}
 
@@ -90,7 +90,7 @@ new_cells (Some bytes) = cell_at bytes
 
 -- one handle in hand, of a buffer that nothing has used
 abbrev pub in_hand : ℕ → ℕ → Hands
-in_hand id size = put no_hands id (Some (fresh_slot (kind.Buffer size)))
+in_hand id size = put no_hands id (Some (fresh_slot id (kind.Buffer size)))
 
 -- a handle that was just made is in hand: it has these cells, and all else is as before
 pub record HasFresh (f : Face) (s t : Link) (id size : ℕ) (bytes : Option (List ℕ)) : Type 0 where
@@ -107,10 +107,6 @@ IsUntouched f b = (i : ℕ) (x : Stored) → f.objects (Buffer b) ≡ Some x →
 abbrev pub IsRetired : Face → Link → ℕ → Type 0
 IsRetired f s b = (i : ℕ) (x : Stored) → f.objects (Buffer b) ≡ Some x → last_use s.mine i x.handle ≤ s.done i
 
--- what nodes wrote into the buffer was made known to the host
-abbrev pub IsHandedOver : Face → Link → ℕ → Type 0
-IsHandedOver f s b = (at size : ℕ) (x : Stored) → f.objects (Buffer b) ≡ Some x → IsReadable (log_of s.mine) x.handle at size
-
--- a barrier of the buffer is the last node that is pending in an index
-abbrev pub EndsWithBarrier : Face → ℕ → ℕ → Type 0
-EndsWithBarrier f index b = (x : Stored) → f.objects (Buffer b) ≡ Some x → (nodes : List Node) × (id : HandleId) × (f.pending index ≡ nodes ++ full_barrier id ∷ []) × (id.0 ≡ x.handle)
+-- by the buffer's tracker no barrier is due before a read by the host
+abbrev pub IsOpen : Face → ℕ → Type 0
+IsOpen f b = (x : Stored) → f.objects (Buffer b) ≡ Some x → due_by x.slot.tracker (host_touch x.handle) ≡ None

@@ -24,11 +24,11 @@ pub record ReachesBuffer (f : Face) (b : ℕ) (batch : Batch) : Type 0 where
   pub is : f.objects (Buffer b) ≡ Some stored
   pub touches : batch_touches batch stored.handle ≡ true
 
--- a batch of an index that touches the store of a buffer, which another context is about to use
-pub record IsTouching (f : Face) (index b : ℕ) (batch : Batch) : Type 0 where
+-- a batch of an index that touches the store of a buffer, handed over for a reason
+pub record IsTouching (f : Face) (index b : ℕ) (why : Reason) (batch : Batch) : Type 0 where
   pub of_index : batch.index ≡ index
   pub reaches : ReachesBuffer f b batch
-  pub for_reason : batch.reason ≡ reason.Cross
+  pub for_reason : batch.reason ≡ why
 
 -- a batch of another index, which touches the store of a buffer that this one is about to use
 pub record IsCross (f : Face) (index b : ℕ) (batch : Batch) : Type 0 where

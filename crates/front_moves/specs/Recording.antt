@@ -1,14 +1,20 @@
 -- What recording nodes on buffers needs and leaves.
-use Rattle.std.specs.Prelude.{◌≡◌, ℕ, ◌+◌, ◌*◌, ◌<◌, ◌≤◌, Bool, if◌then◌else◌, IfSome, List, [], ◌++◌, length, slice_set, slice_index_or}
+use Rattle.std.specs.Prelude.{◌≡◌, ◌≢◌, ℕ, ◌+◌, ◌*◌, ◌<◌, ◌≤◌, ◌==◌, Bool, if◌then◌else◌, Option, Some, None, IfSome, List, [], ◌∷◌, ◌++◌, length, slice_set, slice_index_or}
 use Rattle.std.specs.Option.{option_map}
 use Rattle.vk_types.specs.declared.handles.HandleId.{HandleId}
 use Rattle.vk_types.specs.declared.ops.Node.{Node}
 use Rattle.vk_types.specs.declared.batches.QueueSerial.{QueueSerial}
 use Rattle.vk_types.specs.Touches.{the_end}
-use Rattle.tables.specs.Table.{entry}
+use Rattle.vk_types.specs.declared.accesses.Access.{Access}
+use Rattle.vk_types.specs.declared.regions.Barrier.{Barrier}
+use Rattle.vk_types.specs.Accesses.{transfer_read, transfer_write, joined}
+use Rattle.tables.specs.Table.{Entries, entry}
+use Rattle.barriers.specs.Trackers.{due_by}
+use Rattle.barriers.specs.Recording.{node_for, barrier_node}
+use Rattle.buffer_helper.specs.Buffers.{BufferStore, access_of}
 use Rattle.back_core.specs.Needs.{IsOfGroup}
 use Rattle.front_model.specs.Face.{Buffer}
-use Rattle.front_moves.specs.Buffers.{with_use}
+use Rattle.front_moves.specs.Buffers.{with_use, used, fenced_in, ChangesOne}
 use Rattle.front_moves.specs.Core.{CoreParts, face, HasStore, IsParted}
 
 -- the serial of the next batch of the index at a place of the group, in which there is room for nodes
@@ -30,4 +36,40 @@ pub record IsRecorded (c d : CoreParts) (place : ℕ) (nodes : List Node) (seria
   pub indexes : d.indexes ≡ c.indexes
   pub eight : length c.pending ≡ 8
   pub pending : d.pending ≡ slice_set c.pending place (slice_index_or c.pending place [] ++ nodes)
-  pub buffers : (b : ℕ) → entry b d.buffers ≡ (if touched b then option_map (with_use serial) (entry b c.buffers) else entry b c.buffers)
+  pub buffers : (b : ℕ) → entry b d.buffers ≡ (if touched b then option_map (with_use serial nodes) (entry b c.buffers) else entry b c.buffers)
+
+-- a barrier of the object that leaves the layout, or none
+abbrev pub IsFence : HandleId → Option Barrier → Type 0
+IsFence id due = (barrier : Barrier) → due ≡ Some barrier → (barrier.id ≡ id) × (barrier.layouts ≡ None)
+
+-- a node behind one or two barriers
+abbrev pub behind_both : Option Barrier → Option Barrier → Node → List Node
+behind_both one other n = node_for one ++ node_for other ++ n ∷ []
+
+-- the kinds of access of a copy within one buffer
+abbrev pub read_write : Access
+read_write = joined transfer_read transfer_write
+
+-- What is due before a copy from one buffer to another, by the trackers of their stores.
+pub record IsDueBefore (src dst : ℕ) (old : Entries BufferStore) (one other : Option Barrier) : Type 0 where
+  pub within : src ≡ dst → IfSome (entry src old) (λ x. one ≡ due_by x.tracker (access_of x.handle read_write)) × (other ≡ None)
+  pub source : src ≢ dst → IfSome (entry src old) (λ x. one ≡ due_by x.tracker (access_of x.handle transfer_read))
+  pub target : src ≢ dst → IfSome (entry dst old) (λ x. other ≡ due_by x.tracker (access_of x.handle transfer_write))
+
+-- the access of a buffer by a copy from one buffer to another
+abbrev pub copy_access : ℕ → ℕ → ℕ → Access
+copy_access src dst b = if src == dst then read_write else if b == src then transfer_read else transfer_write
+
+-- nodes were added at a place, and the stores of the buffers that pass a test took in an access in the batch
+pub record IsAccessed (c d : CoreParts) (place : ℕ) (nodes : List Node) (serial : QueueSerial) (touched : ℕ → Bool) (access : ℕ → Access) : Type 0 where
+  pub indexes : d.indexes ≡ c.indexes
+  pub eight : length c.pending ≡ 8
+  pub pending : d.pending ≡ slice_set c.pending place (slice_index_or c.pending place [] ++ nodes)
+  pub buffers : (b : ℕ) → entry b d.buffers ≡ (if touched b then option_map (used (access b) serial) (entry b c.buffers) else entry b c.buffers)
+
+-- a barrier was added at a place, and the store of a buffer took it in
+pub record IsOpened (c d : CoreParts) (place : ℕ) (barrier : Barrier) (serial : QueueSerial) (b : ℕ) : Type 0 where
+  pub indexes : d.indexes ≡ c.indexes
+  pub eight : length c.pending ≡ 8
+  pub pending : d.pending ≡ slice_set c.pending place (slice_index_or c.pending place [] ++ barrier_node barrier ∷ [])
+  pub buffers : ChangesOne b (fenced_in serial barrier) c.buffers d.buffers

@@ -187,11 +187,12 @@ impl Core {
     }
 
     /// Flushes a context where something that is pending in it touches a buffer.
-    fn part<L: BackLink>(
+    pub(crate) fn part<L: BackLink>(
         &mut self,
         link: &mut L,
         index: SerialIndex,
         buffer: u32,
+        reason: Reason,
     ) -> Result<(), Stop>
         requires holds { Holds (face self.old) no_hands (L.state link.old) }
         requires group { IsOfGroup (face self.old).group index }
@@ -200,10 +201,10 @@ impl Core {
         ensures group { (face self.new).group ≡ (face self.old).group }
         ensures err { OnErr result (Owns (face self.new).objects (L.state link.new)) }
         ensures cause { HasCause (L.faults link.old) (L.faults link.new) result }
-        ensures at_back { ActsAtBack L.state L.told link.old link.new 0 false (is_err result) (IsTouching (face self.old) index buffer) }
+        ensures at_back { ActsAtBack L.state L.told link.old link.new 0 false (is_err result) (IsTouching (face self.old) index buffer reason) }
     {
         if self.is_touched(index, buffer) {
-            return self.flush(link, index, Reason::Cross);
+            return self.flush(link, index, reason);
         }
         Ok(())
     }
@@ -226,7 +227,7 @@ impl Core {
         for place in 0..8u8 {
             let other = SerialIndex::new(8 * self.group + place);
             if other != index {
-                match self.part(link, other, buffer) {
+                match self.part(link, other, buffer, Reason::Cross) {
                     Ok(()) => {}
                     Err(stop) => return Err(stop),
                 }

@@ -192,8 +192,8 @@ impl Core {
         match self.prepare(link, index, buffer) {
             Ok(()) => {
                 let serial = self.next_serial(link, index);
-                match self.record_barrier(link, serial, buffer) {
-                    Ok(()) => match self.flush(link, index, Reason::Read) {
+                match self.record_opening(link, serial, buffer) {
+                    Ok(()) => match self.part(link, index, buffer, Reason::Read) {
                         Ok(()) => self.wait_for_uses(link, buffer),
                         Err(stop) => Err(stop),
                     },
@@ -206,27 +206,37 @@ impl Core {
 
     /// Reads a range of a buffer that the host may use.
     pub fn read<L: BackLink>(
-        &self,
+        &mut self,
         link: &mut L,
         buffer: u32,
         at: u64,
         out: &mut [u8],
     ) -> Result<(), Stop>
-        requires holds { Holds (face self.now) no_hands (L.state link.old) }
-        requires quiet { IsQuiet (face self.now) (L.state link.old) (Buffer buffer) }
-        requires store { (size : ℕ) × HasStore (face self.now) buffer size × (at + length out.old ≤ size) }
+        requires holds { Holds (face self.old) no_hands (L.state link.old) }
+        requires quiet { IsQuiet (face self.old) (L.state link.old) (Buffer buffer) }
+        requires store { (size : ℕ) × HasStore (face self.old) buffer size × (at + length out.old ≤ size) }
         requires some { 0 < length out.old }
-        ensures moved { OnOk result (Moved (face self.now) (L.state link.new) (view (face self.now) (L.state link.old)) (outline_at (face self.now)) (IsQuiet (face self.now) (L.state link.old))) }
-        ensures bytes { OnOk result (Agrees out.new (cells (length out.old) (λ k. view (face self.now) (L.state link.old) (Buffer buffer) (at + k)))) }
+        ensures moved { OnOk result (Moved (face self.new) (L.state link.new) (view (face self.old) (L.state link.old)) (outline_at (face self.old)) (IsQuiet (face self.old) (L.state link.old))) }
+        ensures bytes { OnOk result (Agrees out.new (cells (length out.old) (λ k. view (face self.old) (L.state link.old) (Buffer buffer) (at + k)))) }
         ensures fetched { OnOk result ((id : ℕ) × (L.state link.new ≡ fetched (L.state link.old) id at out.new)) }
-        ensures err { OnErr result (Owns (face self.now).objects (L.state link.new)) }
+        ensures group { (face self.new).group ≡ (face self.old).group }
+        ensures pending { (face self.new).pending ≡ (face self.old).pending }
+        ensures last { (face self.new).last ≡ (face self.old).last }
+        ensures err { OnErr result (Owns (face self.new).objects (L.state link.new)) }
         ensures cause { HasCause (L.faults link.old) (L.faults link.new) result }
         ensures at_back { ActsAtBack L.state L.told link.old link.new 0 false (is_err result) NoBatch }
     {
         host_comes_to();
-        match self.buffers.get(buffer) {
-            Some(store) => link.read_host(store.id(), at, out),
-            None => Ok(()),
+        let id = match self.buffers.get(buffer) {
+            Some(store) => store.id(),
+            None => return Ok(()),
+        };
+        match link.read_host(id, at, out) {
+            Ok(()) => {
+                self.buffers.hear(buffer);
+                Ok(())
+            }
+            Err(stop) => Err(stop),
         }
     }
 

@@ -1,9 +1,6 @@
 // What it comes to that the host reads and writes a buffer, on plain values.
-ghost use Rattle.std.specs.Prelude.{◌≡◌, ℕ, ◌+◌, ◌<◌, ◌≤◌, List, [], ◌∷◌, ◌++◌, Some, length};
-ghost use Rattle.vk_types.specs.declared.handles.HandleId.{HandleId};
-ghost use Rattle.vk_types.specs.declared.ops.Node.{Node};
+ghost use Rattle.std.specs.Prelude.{◌≡◌, ℕ, ◌+◌, ◌<◌, ◌≤◌, List, Some, length};
 ghost use Rattle.vk_types.specs.Touches.{the_end};
-ghost use Rattle.vk_model.specs.Log.{Item, commands};
 ghost use Rattle.tables.specs.Table.{entry};
 ghost use Rattle.buffer_helper.specs.Buffers.{BufferStore};
 ghost use Rattle.back_core.specs.Own.{log_of, IsReadable};
@@ -12,11 +9,15 @@ ghost use Rattle.back_core.specs.Needs.{HostMay, HasBatch};
 ghost use Rattle.back_core.specs.Answers.{Learns};
 ghost use Rattle.front_model.specs.Face.{Buffer, Stored, Face, put_object, outline_at, view};
 ghost use Rattle.front_model.specs.Stands.{Holds, Owns, Moved, IsQuiet, no_hands};
-ghost use Rattle.front_model.specs.Steps.{full_barrier};
+ghost use Rattle.buffer_helper.specs.Buffers.{heard};
+ghost use Rattle.front_moves.specs.Buffers.{ChangesOne};
 ghost use Rattle.front_model.specs.Wanted.{with_bytes};
-ghost use Rattle.front_moves.specs.Core.{CoreParts, face, HasStore, IsUntouched};
+ghost use Rattle.front_moves.specs.Core.{CoreParts, face, HasStore, IsUntouched, IsRetired, IsOpen};
 
-use front_model::{link_steps_show, quiet_objects_show, quiet_objects_stay, steps_hold, steps_may};
+use front_model::{
+    due_nodes_may_be_recorded, link_steps_show, quiet_objects_show, quiet_objects_stay, steps_hold,
+    steps_may,
+};
 
 /// The host may use a buffer that is quiet: it reads what the buffer shows, and what it writes is shown.
 pub(crate) fn host_comes_to()
@@ -26,8 +27,9 @@ pub(crate) fn host_comes_to()
         IsReadable (log_of s.mine) x.handle.0 at size }
     ensures bytes { (c : CoreParts) (s : Link) (b : ℕ) (x : BufferStore) → IsQuiet (face c) s (Buffer b) → entry b c.buffers ≡ Some x →
         contents_of s x.handle.0 ≡ view (face c) s (Buffer b) }
-    ensures reads { (c : CoreParts) (s t : Link) (id at : ℕ) (bytes : List ℕ) → Holds (face c) no_hands s → t ≡ fetched s id at bytes →
-        Moved (face c) t (view (face c) s) (outline_at (face c)) (IsQuiet (face c) s) }
+    ensures reads { (c d : CoreParts) (s t : Link) (b at : ℕ) (bytes : List ℕ) (x : BufferStore) → Holds (face c) no_hands s → IsQuiet (face c) s (Buffer b) →
+        entry b c.buffers ≡ Some x → d ≡ record c { buffers = d.buffers } → ChangesOne b heard c.buffers d.buffers → t ≡ fetched s x.handle.0 at bytes →
+        Moved (face d) t (view (face c) s) (outline_at (face c)) (IsQuiet (face c) s) }
     ensures writes { (c : CoreParts) (s t : Link) (b at : ℕ) (bytes : List ℕ) (x : BufferStore) → Holds (face c) no_hands s → IsQuiet (face c) s (Buffer b) →
         entry b c.buffers ≡ Some x → at + length bytes ≤ the_end → t ≡ wrote s x.handle.0 at bytes →
         Moved (face c) t (put_object (view (face c) s) (Buffer b) (with_bytes (view (face c) s (Buffer b)) at bytes)) (outline_at (face c)) (IsQuiet (face c) s) }
@@ -53,9 +55,12 @@ pub(crate) fn waiting_comes_to()
     quiet_objects_stay();
 }
 
-/// A barrier behind all that was recorded makes what nodes wrote known to the host.
+/// The host may use a buffer that nothing pending touches and each batch of which is retired, where by its tracker no barrier is due before
+/// it reads.
 pub(crate) fn settle_comes_to()
-    ensures { (log : List Item) (nodes : List Node) (id : HandleId) (at size : ℕ) → IsReadable (log ++ commands 0 (nodes ++ full_barrier id ∷ [])) id.0 at size }
+    ensures { (f : Face) (s : Link) (b len : ℕ) → Holds f no_hands s → HasStore f b len → IsUntouched f b → IsRetired f s b → IsOpen f b →
+        IsQuiet f s (Buffer b) }
 {
     quiet_objects_stay();
+    due_nodes_may_be_recorded();
 }

@@ -1,68 +1,68 @@
-// How nodes on buffers are recorded, each behind full barriers of all that it touches.
+// How nodes on buffers are recorded, each behind the barriers that are due before it.
 ghost use Rattle.std.specs.Prelude.{◌≡◌, ℕ, ◌+◌, ◌<◌, ◌≤◌, ◌==◌, ◌⊎◌, if◌then◌else◌, ◌++◌, ◌≢◌, [], ◌∷◌, length, OnOk, OnErr, IfErr, Err, IfSome, IfNone, IsSome, slice_set, slice_index_or, true, false, is_err};
 ghost use Rattle.vk_device.specs.Faults.{HasCause};
-ghost use Rattle.vk_types.specs.declared.ops.Op.TheVariants as op;
 ghost use Rattle.vk_types.specs.Touches.{the_end};
 ghost use Rattle.vk_types.specs.declared.stops.Stop.TheVariants.{Memory};
 ghost use Rattle.resource_use.specs.Uses.{number_of};
 ghost use Rattle.back_core.specs.Needs.{IsOfGroup};
 ghost use Rattle.front_model.specs.Face.{Buffer, put_object, outline_at, view, recorded};
 ghost use Rattle.front_model.specs.Stands.{Holds, Owns, Moved, IsQuiet, no_hands};
-ghost use Rattle.front_model.specs.Steps.{full_barrier, fenced};
+ghost use Rattle.barriers.specs.Recording.{node_for};
+ghost use Rattle.front_moves.specs.Recording.{behind_both};
+ghost use Rattle.vk_types.specs.Accesses.{host_read};
+ghost use Rattle.tables.specs.Table.{entry};
+ghost use Rattle.barriers.specs.Trackers.{due_by};
+ghost use Rattle.buffer_helper.specs.Buffers.{access_of};
 ghost use Rattle.front_model.specs.Wanted.{with_copy};
-ghost use Rattle.front_moves.specs.Core.{face, in_hand, HasStore, IsParted, IsQuietBut, IsUntouched, IsRetired, EndsWithBarrier};
+ghost use Rattle.front_moves.specs.Core.{face, in_hand, HasStore, IsParted, IsQuietBut, IsUntouched, IsRetired, IsOpen};
 ghost use Rattle.back_core.specs.Frame.{ActsAtBack, NoBatch};
 
 use crate::group_core::Core;
 use crate::pending::Pending;
 use crate::reading_comes_to::waiting_comes_to;
 use crate::recording_comes_to::{
-    barrier_comes_to, copy_comes_to, stopped_recording_comes_to, upload_comes_to,
+    copy_comes_to, opening_comes_to, stopped_recording_comes_to, upload_comes_to,
 };
 use back_core::BackLink;
 use garbage::Garbage;
+use std::alloc::AllocError;
 use vk_types::{Access, Barrier, HandleId, Node, Op, QueueSerial, SerialIndex, Stop};
 
-/// A barrier of an object that names all kinds of access on both sides.
-pub(crate) fn barrier(id: HandleId) -> Node
-    ensures { result ≡ full_barrier id }
+/// Adds a barrier, where one is due.
+pub(crate) fn push_due(
+    pending: &mut Pending,
+    place: usize,
+    due: Option<Barrier>,
+) -> Result<(), AllocError>
+    requires { place < 8 }
+    ensures { OnOk result (pending.new ≡ slice_set pending.old place (slice_index_or pending.old place [] ++ node_for due)) }
 {
-    Node {
-        op: Op::Barrier(Barrier {
-            id,
-            first: Access::ALL,
-            second: Access::ALL,
-            layouts: None,
-        }),
+    match due {
+        Some(barrier) => pending.push(
+            place,
+            Node {
+                op: Op::Barrier(barrier),
+            },
+        ),
+        None => Ok(()),
     }
 }
 
-/// Adds a copy behind barriers of its two buffers.
+/// Adds a copy behind the barriers that are due before it.
 pub(crate) fn push_copy(
     pending: &mut Pending,
     place: usize,
-    src: HandleId,
-    src_at: u64,
-    dst: HandleId,
-    dst_at: u64,
-    size: u64,
+    one: Option<Barrier>,
+    other: Option<Barrier>,
+    copy: Node,
 ) -> Result<(), Stop>
     requires { place < 8 }
-    ensures ok { OnOk result (pending.new ≡ slice_set pending.old place (slice_index_or pending.old place [] ++ fenced (record { op = op.CopyBuffer src src_at dst dst_at size }))) }
-    ensures eight { length pending.old ≡ 8 }
+    ensures ok { OnOk result (pending.new ≡ slice_set pending.old place (slice_index_or pending.old place [] ++ behind_both one other copy)) }
+    ensures eight { OnOk result (length pending.old ≡ 8) }
     ensures err { IfErr result (λ stop. stop ≡ Memory) }
 {
-    let copy = Node {
-        op: Op::CopyBuffer {
-            src,
-            src_at,
-            dst,
-            dst_at,
-            size,
-        },
-    };
-    if pending.push(place, barrier(src)).is_err()
-        || pending.push(place, barrier(dst)).is_err()
+    if push_due(pending, place, one).is_err()
+        || push_due(pending, place, other).is_err()
         || pending.push(place, copy).is_err()
     {
         return Err(Stop::Memory);
@@ -103,11 +103,20 @@ impl Core {
         let place = self.place(serial.index);
         let src = staging.handle.id();
         let dst = self.id_of(buffer);
-        if push_copy(&mut self.pending, place, src, 0, dst, at, len).is_ok()
-            && self.buffers.note(buffer, serial).is_ok()
-        {
-            link.give(staging);
-            return Ok(());
+        if let Ok(due) = self.buffers.access(buffer, Access::TRANSFER_WRITE, serial) {
+            let copy = Node {
+                op: Op::CopyBuffer {
+                    src,
+                    src_at: 0,
+                    dst,
+                    dst_at: at,
+                    size: len,
+                },
+            };
+            if push_copy(&mut self.pending, place, None, due, copy).is_ok() {
+                link.give(staging);
+                return Ok(());
+            }
         }
         let Garbage { handle, uses: _ } = staging;
         link.abandon(handle);
@@ -149,16 +158,25 @@ impl Core {
         let place = self.place(serial.index);
         let from = self.id_of(src);
         let to = self.id_of(dst);
-        if push_copy(&mut self.pending, place, from, src_at, to, dst_at, size).is_ok()
-            && self.buffers.note_both(src, dst, serial).is_ok()
-        {
-            return Ok(());
+        match self.buffers.access_both(src, dst, serial) {
+            Ok((one, other)) => {
+                let copy = Node {
+                    op: Op::CopyBuffer {
+                        src: from,
+                        src_at,
+                        dst: to,
+                        dst_at,
+                        size,
+                    },
+                };
+                push_copy(&mut self.pending, place, one, other, copy)
+            }
+            Err(_) => Err(Stop::Memory),
         }
-        Err(Stop::Memory)
     }
 
-    /// Records a barrier of a buffer, behind all that was recorded.
-    pub(crate) fn record_barrier<L: BackLink>(
+    /// Records the barrier that is due before the host reads a buffer, if one is.
+    pub(crate) fn record_opening<L: BackLink>(
         &mut self,
         link: &L,
         serial: QueueSerial,
@@ -172,22 +190,44 @@ impl Core {
         requires store { (size : ℕ) × HasStore (face self.old) buffer size }
         ensures moved { OnOk result (Moved (face self.new) (L.state link.now) (view (face self.old) (L.state link.now)) (outline_at (face self.old)) (IsQuietBut (face self.old) (L.state link.now) buffer)) }
         ensures parted { OnOk result (IsParted (face self.new) serial.index buffer) }
-        ensures behind { OnOk result (EndsWithBarrier (face self.new) serial.index buffer) }
+        ensures opened { OnOk result (IsOpen (face self.new) buffer) }
         ensures group { (face self.new).group ≡ (face self.old).group }
         ensures err { OnErr result (Owns (face self.new).objects (L.state link.now)) }
         ensures memory { IfErr result (λ stop. stop ≡ Memory) }
     {
-        barrier_comes_to();
+        opening_comes_to();
         stopped_recording_comes_to();
         let _ = link;
         let place = self.place(serial.index);
-        let id = self.id_of(buffer);
-        if self.pending.push(place, barrier(id)).is_ok()
-            && self.buffers.note(buffer, serial).is_ok()
+        let _id = self.id_of(buffer);
+        let barrier = match self.due_opening(buffer) {
+            Some(barrier) => barrier,
+            None => return Ok(()),
+        };
+        if self.buffers.fence(buffer, &barrier, serial).is_ok()
+            && self
+                .pending
+                .push(
+                    place,
+                    Node {
+                        op: Op::Barrier(barrier),
+                    },
+                )
+                .is_ok()
         {
             return Ok(());
         }
         Err(Stop::Memory)
+    }
+
+    /// The barrier that is due before the host reads a buffer.
+    fn due_opening(&self, buffer: u32) -> Option<Barrier>
+        ensures { IfSome (entry buffer self.now.buffers) (λ x. result ≡ due_by x.tracker (access_of x.handle host_read)) }
+    {
+        match self.buffers.get(buffer) {
+            Some(store) => store.due_opening(),
+            None => None,
+        }
     }
 
     /// The object of a buffer's store.

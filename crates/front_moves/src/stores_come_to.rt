@@ -4,7 +4,7 @@ ghost use Rattle.vk_types.specs.declared.handles.HandleId.{HandleId};
 ghost use Rattle.vk_types.specs.declared.handles.Kind.TheVariants as kind;
 ghost use Rattle.vk_types.specs.Touches.{the_end};
 ghost use Rattle.tables.specs.Table.{Entries, entry, with_entry};
-ghost use Rattle.buffer_helper.specs.Buffers.{BufferStore};
+ghost use Rattle.buffer_helper.specs.Buffers.{BufferStore, new_store};
 ghost use Rattle.back_core.specs.Link.{Link, created, wrote, gave, abandoned};
 ghost use Rattle.back_core.specs.Needs.{IsFresh, HostMay, MayGive};
 ghost use Rattle.front_model.specs.Face.{Face, Buffer, put_object, outline_at, view, recorded};
@@ -48,7 +48,7 @@ pub(crate) fn filled_comes_to()
 /// A buffer that has no store gets the one in hand.
 pub(crate) fn begin_comes_to()
     ensures begun { (c d : CoreParts) (s : Link) (b size : ℕ) (handle : HandleId) → Holds (face c) (in_hand handle.0 size) s → (face c).objects (Buffer b) ≡ None → 0 < size →
-        d ≡ record c { buffers = with_entry b (record { handle = handle; size = size; uses = [] }) c.buffers } →
+        d ≡ record c { buffers = with_entry b (new_store handle size) c.buffers } →
         Moved (face d) s (put_object (view (face c) s) (Buffer b) (recorded (face c) s handle.0))
         (put_object (outline_at (face c)) (Buffer b) (outline_of_size size)) (IsQuietBut (face c) s b) }
 {

@@ -30,11 +30,11 @@ returns r = record {
         bound_back may.model group known.0 target (λ b facts. HasMapRange facts (unsigned_abs offset) (payload_len payload)) may.is.group_is
             (r.accepted_calls_are_in_range.ensures.map_write may.model thread known.0 target offset payload (accepted_of f s group thread (call.MapWrite target offset payload) known.0 may known.1 may.model may.is)),
       );
-  read = λ f s t group thread b place target offset len out may finds moved bytes.
+  read = λ f g s t group thread b place target offset len out may finds moved bytes.
       let asked = call.MapRead target offset len in
       let known = context_of group thread asked may.accepted in
       let found = finds known.0 known.1 in
-      carried_still f f s t group thread asked (reply.Bytes out) (view f s) (IsQuiet f s) may moved (λ c mapped. may.backs.maps c mapped) (nothing_changes group thread asked refl (λ n x. refl))
+      carried_still f g s t group thread asked (reply.Bytes out) (view f s) (IsQuiet f s) may moved (λ c mapped. may.backs.maps c mapped) (nothing_changes group thread asked refl (λ n x. refl))
       (λ state at is agree. r.calls_keep_agreement.ensures.others state thread at asked (view f s) (none_either (current_context state.group thread)) (nil_either (current_context state.group thread)) agree)
       (λ state is agree. r.reads_through_a_map_answer.ensures.read state thread b known.0 found.0 found.1 target offset len (view f s) out
       (accepted_of f s group thread asked known.0 may known.1 state is) (bound_of state group known.0 target b found.0 is.group_is found.2) found.3 agree

@@ -1,3 +1,6 @@
+use Rattle.vk_types.specs.declared.ops.Node.{Node}
+use Rattle.buffer_helper.specs.Buffers.{accessed}
+use Rattle.front_moves.specs.Recording.{IsRecorded, behind_both, copy_access}
 use Rattle.std.proofs.Common.{◌≡◌, ℕ, ◌==◌, refl, sym, ◌∙◌, ap, subst}
 use Rattle.std.specs.Prelude.{◌||◌, Some}
 use Rattle.vk_types.specs.declared.handles.HandleId.{HandleId}
@@ -5,11 +8,12 @@ use Rattle.tables.specs.Table.{entry}
 use Rattle.buffer_helper.specs.Buffers.{BufferStore}
 use Rattle.front_model.specs.Face.{Buffer, Face, outline_at, view, nodes_touch}
 use Rattle.front_model.specs.Stands.{Holds, IsQuiet, no_hands}
-use Rattle.front_model.specs.Steps.{MayRecord, with_nodes, fenced}
+use Rattle.front_model.specs.Steps.{MayRecord, with_nodes}
 use Rattle.front_moves.specs.Buffers.{stored_of}
 use Rattle.front_moves.specs.Core.{CoreParts, face}
-use Rattle.front_moves.proofs.Recorded.{face_recorded, outlines_recorded}
-use Rattle.front_moves.proofs.Recordable.{copy_node, copy_touches, copy_no_layout, copy_may, IsFree}
+use Rattle.front_moves.proofs.Recorded.{accessed_recorded, face_recorded, outlines_recorded}
+use Rattle.front_moves.proofs.Dues.{Copied, copied}
+use Rattle.front_moves.proofs.Recordable.{copy_node, copy_touches, copy_may, IsFree}
 use Rattle.front_moves.proofs.BufferStores.{IsStore, store_of, store_at, Distinct, handle_is, other_handle, buffer_free}
 use Rattle.front_moves.proofs.recording_comes_to.copy_comes_to.Goals as goal
 
@@ -19,34 +23,46 @@ one_store c a b from to m n distinct x y e =
     let same : Buffer a ≡ Buffer b = distinct (Buffer a) (Buffer b) (stored_of x.store) (stored_of y.store) (store_at c a x.store x.is) (store_at c b y.store y.is) (x.handle ∙ e ∙ sym y.handle) in
     cc
 
+-- and one buffer has one object
+one_object : (c : CoreParts) (a b : ℕ) (from to : HandleId) (m n : ℕ) → IsStore c a from m → IsStore c b to n → a ≡ b → from.0 ≡ to.0
+one_object c a b from to m n x y e =
+    let same : Some x.store ≡ Some y.store = sym x.is ∙ (ap (λ k. entry k c.buffers) e ∙ y.is) in
+    let one : x.store ≡ y.store = cc in
+    sym x.handle ∙ (ap (λ (z : BufferStore). z.handle.0) one ∙ y.handle)
+
 pub returns : goal.returns
 returns l = record {
-  moved = λ c d s place src src_at dst dst_at size src_len dst_len serial from to h next at_src at_dst src_in dst_in some apart recorded.
+  moved = λ c d s place src src_at dst dst_at size src_len dst_len serial from to one other h next at_src at_dst src_in dst_in some apart due accessed.
       let f : Face = face c in
-      let nodes = fenced (copy_node from src_at to dst_at size) in
+      let n : Node = copy_node from src_at to dst_at size in
+      let nodes = behind_both one other n in
       let distinct : Distinct c = λ o q x y. l.steps_may.ensures.distinct f no_hands s o q x y h in
       let a : IsStore c src from src_len = store_of c serial.index src from src_len at_src in
       let b : IsStore c dst to dst_len = store_of c serial.index dst to dst_len at_dst in
       let free_a : IsFree f no_hands s serial.index from src_at size = buffer_free c no_hands s serial.index src from src_len src_at size h at_src a some src_in in
       let free_b : IsFree f no_hands s serial.index to dst_at size = buffer_free c no_hands s serial.index dst to dst_len dst_at size h at_dst b some dst_in in
+      let laws = l.due_nodes_may_be_recorded.ensures in
+      let copied' : Copied c s src dst one other from to n =
+      copied laws.told l.due_barriers_fit.ensures.of l.due_barriers_fit.ensures.layouts laws.node laws.behind c no_hands s h src dst one other from to src_at dst_at size src_len dst_len a b due
+      (one_object c src dst from to src_len dst_len a b) (one_store c src dst from to src_len dst_len distinct a b) in
+      let recorded : IsRecorded c d place nodes serial (λ k. (k == src) || (k == dst)) = accessed_recorded c d place nodes serial (λ k. (k == src) || (k == dst)) (copy_access src dst) accessed copied'.accesses in
       let may : MayRecord f no_hands s serial.index nodes =
-      copy_may f no_hands s serial.index from src_at to dst_at size next.group next.few
-      (l.fenced_nodes_stay_sound.ensures.node _ (copy_node from src_at to dst_at size) h.sound (l.fenced_nodes_stay_sound.ensures.one_queue f s) (l.fenced_nodes_stay_sound.ensures.full _ h.recordable) (copy_no_layout from src_at to dst_at size) refl)
-      some free_a free_b (λ e. apart (one_store c src dst from to src_len dst_len distinct a b e)) in
+      copy_may f no_hands s serial.index one other from src_at to dst_at size next.group next.few copied'.ordered copied'.first copied'.second some free_a free_b
+      (λ e. apart (one_store c src dst from to src_len dst_len distinct a b e)) in
       let touch : (k : ℕ) (x : BufferStore) → entry k c.buffers ≡ Some x → nodes_touch nodes x.handle.0 ≡ ((k == src) || (k == dst)) =
-      λ k x is. copy_touches from src_at to dst_at size x.handle.0
+      λ k x is. copy_touches one other from src_at to dst_at size x.handle.0 copied'.first copied'.second
       ∙ ap (λ t. t || (to.0 == x.handle.0)) (handle_is c k src from src_len x distinct a is)
       ∙ ap (λ t. (k == src) || t) (handle_is c k dst to dst_len x distinct b is) in
       let same : face d ≡ with_nodes f serial.index nodes = face_recorded c d no_hands s place nodes serial (λ k. (k == src) || (k == dst)) h next recorded touch in
       record {
         holds = subst (λ g. Holds g no_hands s) (sym same) (l.steps_hold.ensures.records f no_hands s serial.index nodes h may);
         view_is = ap (λ g. view g s) same
-            ∙ l.front_steps_show.ensures.copies f no_hands s serial.index (Buffer src) (Buffer dst) (stored_of a.store) (stored_of b.store) from to src_at dst_at size h may
+            ∙ l.front_steps_show.ensures.copies f no_hands s serial.index nodes (Buffer src) (Buffer dst) (stored_of a.store) (stored_of b.store) from to src_at dst_at size h may copied'.behind
             (store_at c src a.store a.is) refl a.handle (store_at c dst b.store b.is) refl b.handle free_a.end free_b.end;
         outlines_are = ap outline_at same ∙ outlines_recorded f serial.index nodes;
         still = λ o stays. let quiet : IsQuiet f s o = stays.0.0 in
             subst (λ g. IsQuiet g s o) (sym same) (l.quiet_objects_stay.ensures.records f s o serial.index nodes quiet
-            (copy_touches from src_at to dst_at size quiet.stored.handle
+            (copy_touches one other from src_at to dst_at size quiet.stored.handle copied'.first copied'.second
             ∙ ap (λ t. t || (to.0 == quiet.stored.handle)) (other_handle c src from src_len o quiet.stored distinct a quiet.is stays.1)
             ∙ other_handle c dst to dst_len o quiet.stored distinct b quiet.is stays.0.1));
       };

@@ -11,5 +11,5 @@ pub returns : goal.returns
 returns c = record {
   owns = λ a d s h keeps. owns_kept a.buffers d.buffers s keeps (c.steps_may.ensures.owns (face a) no_hands s h);
   lets_go = λ a d s id len h keeps. owns_kept a.buffers d.buffers _ keeps
-      (c.steps_may.ensures.lets_go (face a) (in_hand id len) s id (fresh_slot (kind.Buffer len)) h (put-same no_hands id (Some (fresh_slot (kind.Buffer len)))));
+      (c.steps_may.ensures.lets_go (face a) (in_hand id len) s id (fresh_slot id (kind.Buffer len)) h (put-same no_hands id (Some (fresh_slot id (kind.Buffer len)))));
 }

@@ -7,8 +7,8 @@ use Rattle.front_moves.specs.Core.{in_hand}
 use Rattle.front_moves.proofs.stores_come_to.filled_comes_to.Goals as goal
 
 -- what is in hand
-is_in_hand : (id size : ℕ) → in_hand id size id ≡ Some (fresh_slot (kind.Buffer size))
-is_in_hand id size = put-same no_hands id (Some (fresh_slot (kind.Buffer size)))
+is_in_hand : (id size : ℕ) → in_hand id size id ≡ Some (fresh_slot id (kind.Buffer size))
+is_in_hand id size = put-same no_hands id (Some (fresh_slot id (kind.Buffer size)))
 
 pub returns : goal.returns
 returns c = record {
@@ -17,11 +17,11 @@ returns c = record {
       let apart = λ (index : ℕ). c.steps_may.ensures.untouched f (in_hand id (length bytes)) t id index (kind.Buffer (length bytes)) fresh.holds (is_in_hand id (length bytes)) in
       record {
         holds = c.steps_hold.ensures.writes f (in_hand id (length bytes)) t id 0 bytes fresh.holds apart;
-        view_is = c.link_steps_show.ensures.writes_hand f (in_hand id (length bytes)) t id 0 bytes (fresh_slot (kind.Buffer (length bytes))) fresh.holds (is_in_hand id (length bytes)) apart ∙ fresh.view_is;
+        view_is = c.link_steps_show.ensures.writes_hand f (in_hand id (length bytes)) t id 0 bytes (fresh_slot id (kind.Buffer (length bytes))) fresh.holds (is_in_hand id (length bytes)) apart ∙ fresh.view_is;
         still = λ o quiet. c.quiet_objects_stay.ensures.writes f t o id 0 bytes (fresh.still o quiet);
         has = c.fresh_handles_show.ensures.filled f (in_hand id (length bytes)) t id bytes fresh.holds apart few fresh.has;
       };
-  held = λ f s id size h. (h.hands_stand id (fresh_slot (kind.Buffer size)) (is_in_hand id size)).stands.held;
-  let_go = λ f s id size h. c.steps_may.ensures.lets_go f (in_hand id size) s id (fresh_slot (kind.Buffer size)) h (is_in_hand id size);
+  held = λ f s id size h. (h.hands_stand id (fresh_slot id (kind.Buffer size)) (is_in_hand id size)).stands.held;
+  let_go = λ f s id size h. c.steps_may.ensures.lets_go f (in_hand id size) s id (fresh_slot id (kind.Buffer size)) h (is_in_hand id size);
   owns = λ f s. c.steps_may.ensures.owns f no_hands s;
 }

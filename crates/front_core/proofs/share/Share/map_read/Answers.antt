@@ -27,7 +27,7 @@ returns-then-length-eq0-clause-done g c =
     let len_is : unsigned_abs c.args.length ≡ 0 = search rules in
     let asked_is : c.unsigned_abs.result ≡ unsigned_abs c.args.length = c.unsigned_abs.ensures.value ∙ rw (to_z-of_z {w = w64} {z = c.args.length} c.ranges.length) refl in
     let none : c.in-Ok.bytes ≡ [] = c.in-Ok.ensures ∙ rw (asked_is, len_is) refl in
-    c.map_calls_come_to.ensures.read (face c.args.self.now.core) (g.L.BackLink.state c.args.link.now) (g.L.BackLink.state c.args.link.now) c.args.self.now.state c.args.thread c.in-Some.buffer c.in-Some.place c.args.target c.args.offset c.args.length c.in-Ok.bytes c.requires c.in-Some.ensures.some
+    c.map_calls_come_to.ensures.read (face c.args.self.now.core) (face c.args.self.now.core) (g.L.BackLink.state c.args.link.now) (g.L.BackLink.state c.args.link.now) c.args.self.now.state c.args.thread c.in-Some.buffer c.in-Some.place c.args.target c.args.offset c.args.length c.in-Ok.bytes c.requires c.in-Some.ensures.some
     (moved_none (face c.args.self.now.core) (g.L.BackLink.state c.args.link.now) c.requires.backs.holds)
     (agrees_none c.in-Ok.bytes (unsigned_abs c.args.length) _ none len_is)
 
@@ -69,7 +69,7 @@ returns-in-Ok-read-clause-done g c =
     = subst (λ n. Agrees c.read.new.out (cells n (λ k. view (face c.args.self.now.core) (g.L.BackLink.state c.args.link.now) (Buffer c.in-Some.buffer) (c.in-Some.place + unsigned_abs c.args.offset + k)))) given
     (subst (λ n. Agrees c.read.new.out (cells (length c.as_mut_slice.result.now) (λ k. view (face c.args.self.now.core) (g.L.BackLink.state c.args.link.now) (Buffer c.in-Some.buffer) (c.in-Some.place + n + k)))) at_is c.in-Ok-read.ensures.bytes) in
     let all : length c.read.new.out ≡ length c.in-Ok.bytes = agrees_length c.read.new.out _ read ∙ length-cells _ _ ∙ sym zeros in
-    c.map_calls_come_to.ensures.read (face c.args.self.now.core) (g.L.BackLink.state c.args.link.now) (g.L.BackLink.state c.read.new.link) c.args.self.now.state c.args.thread c.in-Some.buffer c.in-Some.place c.args.target c.args.offset c.args.length _ c.requires c.in-Some.ensures.some
+    c.map_calls_come_to.ensures.read (face c.args.self.now.core) (face c.read.new.self) (g.L.BackLink.state c.args.link.now) (g.L.BackLink.state c.read.new.link) c.args.self.now.state c.args.thread c.in-Some.buffer c.in-Some.place c.args.target c.args.offset c.args.length _ c.requires c.in-Some.ensures.some
     c.in-Ok-read.ensures.moved
     (subst (λ xs. Agrees xs (cells (unsigned_abs c.args.length) (λ k. view (face c.args.self.now.core) (g.L.BackLink.state c.args.link.now) (Buffer c.in-Some.buffer) (c.in-Some.place + unsigned_abs c.args.offset + k)))) (sym (written_over c.in-Ok.bytes c.read.new.out all)) read)
 

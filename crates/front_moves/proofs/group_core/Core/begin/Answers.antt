@@ -1,6 +1,6 @@
 use Rattle.std.proofs.Common.{◌≡◌, ap, ◌∙◌, []}
 use Rattle.tables.specs.Table.{with_entry}
-use Rattle.buffer_helper.specs.Buffers.{BufferStore}
+use Rattle.buffer_helper.specs.Buffers.{BufferStore, new_store}
 use Rattle.front_moves.specs.Core.{CoreParts, face}
 use Rattle.front_moves.proofs.AtBack.{did_nothing, might_stop}
 use Rattle.front_moves.proofs.BufferLaws.{buffers_changed}
@@ -15,7 +15,7 @@ abandon-requires g c =
 pub returns-clause-moved : goal.returns-clause-moved
 returns-clause-moved g c = elim c.match-insert.branch [
   | in-Ok w ↦
-      let store : BufferStore = record { handle = c.args.fresh; size = c.args.size; uses = [] } in
+      let store : BufferStore = new_store c.args.fresh c.args.size in
       let inside : CoreParts = record { indexes = c.self.inside.indexes; pending = c.self.inside.pending; buffers = c.insert.new.self } in
       let put : c.insert.new.self ≡ with_entry c.args.buffer store c.self.inside.buffers = w.in-Ok.ensures.ok ∙ ap (λ (b : BufferStore). with_entry c.args.buffer b c.self.inside.buffers) c.new.ensures in
       rw (w.result-is, w.link-is)

@@ -21,7 +21,7 @@ returns-clause-apart g c =
 pub returns-then-is_touched-clause-at_back : goal.returns-then-is_touched-clause-at_back
 returns-then-is_touched-clause-at_back g c =
     did_for (omega arith)
-    (is_touching (face c.args.self.now) c.args.index c.args.buffer c.is_touched.result (c.is_touched.ensures.some (g.L.BackLink.state c.args.link.now) c.requires.holds) c.is_touched.ensures.none c.if-is_touched.true)
+    (is_touching (face c.args.self.now) c.args.index c.args.buffer c.args.reason c.is_touched.result (c.is_touched.ensures.some (g.L.BackLink.state c.args.link.now) c.requires.holds) c.is_touched.ensures.none c.if-is_touched.true)
     c.flush.ensures.at_back
 
 pub returns-clause-at_back : goal.returns-clause-at_back
