@@ -1,7 +1,7 @@
 // Traces of several threads and share groups: the order of the schedule, replies in any order, and the summary.
 ghost use Rattle.std.specs.Prelude.{◌≡◌, []};
 
-use super::running::{joined, run_by};
+use super::running::{joined, run_by, trace};
 use std::alloc::{AllocError, Global};
 use std::test::Fail;
 use trace_io::{MemorySink, Status};
@@ -197,6 +197,115 @@ fn a_summary_counts_calls_and_objects(rt: HostRuntime) -> Result<(), Fail> {
         let (status, sink, _) = run_by(alloc, list, text, FakeDevice::first(alloc))?;
         assert!(rt; status == Status::Ok);
         assert!(rt; sink.bytes() == want.as_bytes());
+    }
+    Ok(())
+}
+
+// What a trace shows, its calls behind the opening, and how its summary ends.
+struct Counted {
+    shows: &'static str,
+    calls: &'static str,
+    end: &'static str,
+}
+
+const COUNTED: [Counted; 7] = [
+    Counted {
+        shows: "a copy between new stores has no barrier, the map of its target has one",
+        calls: "0 bind copy_read 1\n\
+            0 bdata copy_read 4 static_draw 0a0b0c0d\n\
+            0 bind copy_write 2\n\
+            0 bdata copy_write 4 static_draw null\n\
+            0 bcopy copy_read copy_write 0 0 4\n\
+            0 bmap copy_write 0 4 r\n\
+            0 mread copy_write 0 4\n",
+        end: "nodes 1\nbarriers 1\ncreated 2\ndestroyed 2\nend\n",
+    },
+    Counted {
+        shows: "two copies from one buffer: a barrier between their writes, none between their reads",
+        calls: "0 bind copy_read 1\n\
+            0 bdata copy_read 4 static_draw 01020304\n\
+            0 bind copy_write 2\n\
+            0 bdata copy_write 8 static_draw 0000000000000000\n\
+            0 bcopy copy_read copy_write 0 0 4\n\
+            0 bcopy copy_read copy_write 0 4 4\n\
+            0 bmap copy_write 0 8 r\n\
+            0 mread copy_write 0 8\n",
+        end: "nodes 2\nbarriers 2\ncreated 2\ndestroyed 2\nend\n",
+    },
+    Counted {
+        shows: "what was written is made known to the first copy that reads it, and to the second with it",
+        calls: "0 bind copy_read 1\n\
+            0 bdata copy_read 4 static_draw 01020304\n\
+            0 bind copy_write 2\n\
+            0 bdata copy_write 4 static_draw null\n\
+            0 bcopy copy_read copy_write 0 0 4\n\
+            0 bind copy_read 3\n\
+            0 bdata copy_read 4 static_draw null\n\
+            0 bcopy copy_write copy_read 0 0 4\n\
+            0 bind copy_read 4\n\
+            0 bdata copy_read 4 static_draw null\n\
+            0 bcopy copy_write copy_read 0 0 4\n",
+        end: "nodes 3\nbarriers 1\ncreated 4\ndestroyed 4\nend\n",
+    },
+    Counted {
+        shows: "a write behind a read",
+        calls: "0 bind copy_read 1\n\
+            0 bdata copy_read 4 static_draw 01020304\n\
+            0 bind copy_write 2\n\
+            0 bdata copy_write 4 static_draw null\n\
+            0 bcopy copy_read copy_write 0 0 4\n\
+            0 bsub copy_read 1 ff\n",
+        end: "nodes 2\nbarriers 1\ncreated 3\ndestroyed 3\nend\n",
+    },
+    Counted {
+        shows: "copies inside one buffer",
+        calls: "0 bind copy_read 1\n\
+            0 bind copy_write 1\n\
+            0 bdata copy_read 8 static_draw 0001020304050607\n\
+            0 bcopy copy_read copy_write 0 4 4\n\
+            0 bcopy copy_read copy_write 4 0 4\n",
+        end: "nodes 2\nbarriers 1\ncreated 1\ndestroyed 1\nend\n",
+    },
+    Counted {
+        shows: "a buffer that no node wrote is mapped without a barrier, one that was mapped before too",
+        calls: "0 bind copy_read 1\n\
+            0 bdata copy_read 4 static_draw 01020304\n\
+            0 bmap copy_read 0 4 r\n\
+            0 bunmap copy_read\n\
+            0 bsub copy_read 1 ff\n\
+            0 bmap copy_read 0 4 r\n\
+            0 bunmap copy_read\n\
+            0 bmap copy_read 0 4 r\n\
+            0 mread copy_read 0 4\n\
+            0 bunmap copy_read\n",
+        end: "nodes 1\nbarriers 1\ncreated 2\ndestroyed 2\nend\n",
+    },
+    Counted {
+        shows: "a write behind what the host read",
+        calls: "0 bind copy_read 1\n\
+            0 bdata copy_read 4 static_draw 01020304\n\
+            0 bsub copy_read 0 aa\n\
+            0 bmap copy_read 0 4 r\n\
+            0 mread copy_read 0 4\n\
+            0 bunmap copy_read\n\
+            0 bsub copy_read 1 bb\n",
+        end: "nodes 2\nbarriers 2\ncreated 3\ndestroyed 3\nend\n",
+    },
+];
+
+#[test]
+fn a_summary_counts_the_barriers_that_were_due(rt: HostRuntime) -> Result<(), Fail> {
+    let alloc = rt.alloc();
+    for row in &COUNTED {
+        let text = trace(alloc, row.calls)?;
+        let (status, sink, _) = run_by(
+            alloc,
+            &["once", "--seed", "0", "--summary"],
+            text,
+            FakeDevice::last(alloc),
+        )?;
+        assert!(rt; status == Status::Ok, "{}", row.shows);
+        assert!(rt; sink.bytes().ends_with(row.end.as_bytes()), "{}", row.shows);
     }
     Ok(())
 }
