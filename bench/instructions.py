@@ -44,14 +44,14 @@ def fences(calls):
 
 # name, text, millions of instructions when the figure was taken
 TRACES = [
-    ("8,000 calls on stores of one thread", lambda: stores(1, 8000), 145),
-    ("16,000 of them", lambda: stores(1, 16000), 370),
-    ("64,000 of them", lambda: stores(1, 64000), 3240),
-    ("8,000 calls on stores of sixteen threads", lambda: stores(16, 8000), 115),
-    ("16,000 of them", lambda: stores(16, 16000), 319),
-    ("64,000 of them", lambda: stores(16, 64000), 2786),
-    ("3,000 calls on stores with flushes", lambda: flushed(3000), 35),
-    ("6,000 of them", lambda: flushed(6000), 77),
+    ("8,000 calls on stores of one thread", lambda: stores(1, 8000), 97),
+    ("16,000 of them", lambda: stores(1, 16000), 197),
+    ("64,000 of them", lambda: stores(1, 64000), 811),
+    ("8,000 calls on stores of sixteen threads", lambda: stores(16, 8000), 102),
+    ("16,000 of them", lambda: stores(16, 16000), 206),
+    ("64,000 of them", lambda: stores(16, 64000), 854),
+    ("3,000 calls on stores with flushes", lambda: flushed(3000), 31),
+    ("6,000 of them", lambda: flushed(6000), 64),
     ("2,000 calls on fences", lambda: fences(2000), 7),
     ("20,000 of them", lambda: fences(20000), 67),
 ]
