@@ -15,7 +15,7 @@ use Rattle.vk_types.specs.Accesses.{no_access, host_read, all_access, transfer_w
 use Rattle.vk_types.specs.Touches.{touches, op_touches, barrier_of, op_barrier}
 use Rattle.vk_model.specs.Log.{Range, node_range, node_ranges, clash, touches_object, touches_with, conflict_on}
 use Rattle.vk_model.proofs.Clashes.{any_weaker, none_is_some}
-use Rattle.vk_model.proofs.Fences.{touches_with_all}
+use Rattle.vk_model.proofs.ObjectTouches.{touches_with_all}
 use Rattle.barriers.specs.Licence.{union, writes}
 use Rattle.barriers.specs.Logs.{joint_access}
 use Rattle.barriers.proofs.Accesses.{none_meets, meets_itself, union_meets}

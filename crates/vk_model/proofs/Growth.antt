@@ -1,15 +1,12 @@
--- What a log needs to stay sound, or fenced, when an item is added at its end.
-use Rattle.std.proofs.Common.{◌≡◌, ℕ, ◌<◌, ◌≤◌, List, [], ◌∷◌, ◌++◌, length, take, true, false, cond, eqb, sym, ◌∙◌, ap, subst, arith, inl, inr}
-use Rattle.std.specs.Prelude.{◌⊎◌, Option, Some, None, slice_get, IfSome}
+-- What a log needs to stay sound when an item is added at its end.
+use Rattle.std.proofs.Common.{◌≡◌, ℕ, ◌<◌, ◌≤◌, List, [], ◌∷◌, ◌++◌, length, take, sym, ◌∙◌, ap, subst, arith, inl, inr}
+use Rattle.std.specs.Prelude.{◌⊎◌, Option, Some, slice_get}
 use Rattle.std.proofs.lemmas.Bool.{cases_lt}
 use Rattle.std.proofs.lemmas.List.{length-append, take-append-le, take_at}
 use Rattle.std.proofs.lemmas.Option.{slice_get_within}
-use Rattle.vk_types.specs.declared.regions.Barrier.{Barrier}
 use Rattle.vk_types.specs.declared.ops.Node.{Node}
-use Rattle.vk_types.specs.Touches.{barrier_of}
-use Rattle.vk_model.specs.Log.{Item, Command, touches_object, HasEdge, Reaches, direct, further, ReachesNext, FindsLayouts, IsSound, is_barrier_of, is_guarded, NamesAll, IsFenced, Conflicts}
+use Rattle.vk_model.specs.Log.{Item, Command, HasEdge, Reaches, direct, further, ReachesNext, FindsLayouts, IsSound, Conflicts}
 use Rattle.vk_model.proofs.Device.{get_front, get_next, reaches_front}
-use Rattle.vk_model.proofs.Fences.{guarded_from-append}
 
 -- Places of a longer log
 
@@ -107,27 +104,3 @@ sound_front log more sound = record {
       let below : k < length log = slice_get_within log k (Command q n) at in
       subst (λ l. FindsLayouts l n) (take-append-le k log more (omega (arith, below))) (sound.laid_out k q n (get_front log more k below ∙ at));
 }
-
--- Fenced logs
-
--- a new item that is a full barrier, or finds a barrier on each object that it touches
-pub fenced_next : (log : List Item) (x : Item) → IsFenced log →
-    ((q : ℕ) (n : Node) → x ≡ Command q n → IfSome (barrier_of n) NamesAll) →
-    ((q : ℕ) (n : Node) (id : ℕ) → x ≡ Command q n → barrier_of n ≡ None → touches_object n id ≡ true → is_guarded log id ≡ true) →
-    IsFenced (log ++ x ∷ [])
-fenced_next log x fenced full guarded = record {
-  full = λ k q n at. all k q n (place_cases log x (Command q n) k at);
-  guarded = λ k q n id at none t. guard k q n id none t (place_cases log x (Command q n) k at);
-}
-  where
-    all : (k q : ℕ) (n : Node) → ((k < length log) × (slice_get log k ≡ Some (Command q n))) ⊎ Last log x (Command q n) k → IfSome (barrier_of n) NamesAll
-    all k q n (inl here) = fenced.full k q n here.1
-    all k q n (inr last) = full q n (sym last.same)
-
-    guard : (k q : ℕ) (n : Node) (id : ℕ) → barrier_of n ≡ None → touches_object n id ≡ true → ((k < length log) × (slice_get log k ≡ Some (Command q n))) ⊎ Last log x (Command q n) k → is_guarded (take k (log ++ x ∷ [])) id ≡ true
-    guard k q n id none t (inl here) = ap (λ l. is_guarded l id) (take_front log x k here.0) ∙ fenced.guarded k q n id here.1 none t
-    guard k q n id none t (inr last) = ap (λ l. is_guarded l id) (take_whole log x k last.place) ∙ guarded q n id (sym last.same) none t
-
--- what a barrier guards after it
-pub guarded_by : (log : List Item) (q : ℕ) (n : Node) (b : Barrier) (id : ℕ) → barrier_of n ≡ Some b → is_guarded (log ++ Command q n ∷ []) id ≡ cond (eqb b.id.0 id) true (cond (touches_object n id) false (is_guarded log id))
-guarded_by log q n b id has = guarded_from-append false log (Command q n ∷ []) id ∙ ap (λ o. cond (is_barrier_of o id) true (cond (touches_object n id) false (is_guarded log id))) has

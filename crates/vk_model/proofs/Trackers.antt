@@ -11,7 +11,7 @@ use Rattle.vk_types.specs.Touches.{barrier_of}
 use Rattle.vk_model.specs.Log.{Item, Command, conflict_on, touches_object, touches_with, waits_for, holds_back, chained, node_edge, item_edge, HasEdge, Reaches, direct, ReachesNext, FindsLayouts, IsSound, IsOneQueue, Conflicts}
 use Rattle.vk_model.specs.Tracking.{IsLastBarrier, IsTracked, IsSince, TouchesSince}
 use Rattle.vk_model.proofs.Clashes.{Shares, shares, ConflictsOn, conflicts_on, none_is_some}
-use Rattle.vk_model.proofs.Fences.{barrier_object}
+use Rattle.vk_model.proofs.ObjectTouches.{barrier_object}
 use Rattle.vk_model.proofs.Device.{get_front, get_next}
 use Rattle.vk_model.proofs.Growth.{reaches_longer, reaches_then, reaches_next, sound_next, Last, place_cases}
 

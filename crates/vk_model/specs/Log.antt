@@ -7,7 +7,7 @@ use Rattle.vk_types.specs.declared.accesses.Layout.TheVariants.{Undefined}
 use Rattle.vk_types.specs.declared.regions.Touch.{Touch}
 use Rattle.vk_types.specs.declared.regions.Barrier.{Barrier}
 use Rattle.vk_types.specs.declared.ops.Node.{Node}
-use Rattle.vk_types.specs.Accesses.{in_common, transfer_write, color_write, all_access}
+use Rattle.vk_types.specs.Accesses.{in_common, transfer_write, color_write}
 use Rattle.vk_types.specs.Touches.{touches, barrier_of, the_end}
 
 -- Items
@@ -197,35 +197,6 @@ commands queue nodes = map (Command queue) nodes
 abbrev pub NoConflict : List Node → List Node → Type 0
 NoConflict xs ys = AllByRecursion (λ a. AllByRecursion (λ b. conflict a b ≡ false) ys) xs
 
--- Full barriers
-
 -- all commands are of one queue
 abbrev pub IsOneQueue : List Item → Type 0
 IsOneQueue log = (k q : ℕ) (n : Node) → slice_get log k ≡ Some (Command q n) → q ≡ 0
-
-abbrev pub is_barrier_of : Option Barrier → ℕ → Bool
-is_barrier_of None id = false
-is_barrier_of (Some b) id = b.id.0 == id
-
--- whether the last node so far that touches the object is a barrier
-abbrev pub guard_step : Item → ℕ → Bool → Bool
-guard_step (Command queue n) id guarded = if is_barrier_of (barrier_of n) id then true else if touches_object n id then false else guarded
-guard_step (HostWrite _ _ _) id guarded = guarded
-guard_step (Wait _ _) id guarded = guarded
-guard_step (Signal _ _) id guarded = guarded
-
-abbrev pub guarded_from : Bool → List Item → ℕ → Bool
-guarded_from guarded [] id = guarded
-guarded_from guarded (x ∷ log) id = guarded_from (guard_step x id guarded) log id
-
-abbrev pub is_guarded : List Item → ℕ → Bool
-is_guarded log id = guarded_from false log id
-
-abbrev pub NamesAll : Barrier → Type 0
-NamesAll b = (b.first ≡ all_access) × (b.second ≡ all_access)
-
--- Each barrier names all kinds on both sides, and on each object that another node touches a barrier stands before it,
--- with no other node on the object between the two.
-pub record IsFenced (log : List Item) : Type 0 where
-  pub full : (k q : ℕ) (n : Node) → slice_get log k ≡ Some (Command q n) → IfSome (barrier_of n) NamesAll
-  pub guarded : (k q : ℕ) (n : Node) (id : ℕ) → slice_get log k ≡ Some (Command q n) → barrier_of n ≡ None → touches_object n id ≡ true → is_guarded (take k log) id ≡ true

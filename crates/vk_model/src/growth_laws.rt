@@ -1,19 +1,12 @@
 // Logs that stay sound as they grow.
-ghost use Rattle.std.specs.Prelude.{◌≡◌, ℕ, ◌+◌, ◌⊎◌, true, List, [], ◌∷◌, ◌++◌, length, take, slice_get, Option, Some, None, IfSome, false};
+ghost use Rattle.std.specs.Prelude.{◌≡◌, ℕ, ◌+◌, ◌⊎◌, true, List, [], ◌∷◌, ◌++◌, length, take, slice_get, Option, Some, None, false};
 ghost use Rattle.vk_types.specs.declared.regions.Barrier.{Barrier};
 ghost use Rattle.vk_types.specs.declared.ops.Node.{Node};
 ghost use Rattle.vk_types.specs.Accesses.{in_common};
 ghost use Rattle.vk_types.specs.Touches.{barrier_of};
 ghost use Rattle.vk_model.specs.Cells.{place};
-ghost use Rattle.vk_model.specs.Log.{Item, Command, touches_object, touches_with, conflict_on, Conflicts, FindsLayouts, IsSound, ReachesNext, IsOneQueue, is_guarded, NamesAll, IsFenced};
+ghost use Rattle.vk_model.specs.Log.{Item, Command, touches_object, touches_with, conflict_on, Conflicts, FindsLayouts, IsSound, ReachesNext, IsOneQueue};
 ghost use Rattle.vk_model.specs.Tracking.{IsLastBarrier, IsTracked, IsSince, TouchesSince};
-
-/// A log of one queue is in order where each node stands behind full barriers on its objects.
-pub fn fenced_log_is_sound()
-    ensures { (log : List Item) → IsOneQueue log → IsFenced log →
-        ((k q : ℕ) (n : Node) → slice_get log k ≡ Some (Command q n) → FindsLayouts (take k log) n) →
-        IsSound log }
-{}
 
 /// What a sound log needs of an item that is added at its end: all that conflict with it reach it, and it finds its layouts.
 pub fn sound_log_grows()
@@ -53,13 +46,4 @@ pub fn trackers_keep_logs_sound()
         ((q : ℕ) (n : Node) (place : ℕ) (l : IsLastBarrier log id place) → x ≡ Command q n → touches_object n id ≡ true →
         last ≡ Some place → touches_with n id l.barrier.second ≡ true) →
         IsTracked (log ++ x ∷ []) id last }
-{}
-
-/// What a fenced log needs of it: it is a full barrier, or finds one on each object that it touches.
-pub fn fenced_log_grows()
-    ensures { (log : List Item) (x : Item) → IsFenced log →
-        ((q : ℕ) (n : Node) → x ≡ Command q n → IfSome (barrier_of n) NamesAll) →
-        ((q : ℕ) (n : Node) (id : ℕ) → x ≡ Command q n → barrier_of n ≡ None →
-        touches_object n id ≡ true → is_guarded log id ≡ true) →
-        IsFenced (log ++ x ∷ []) }
 {}

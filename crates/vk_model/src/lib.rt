@@ -22,10 +22,7 @@ pub use agreement_laws::{
     agreement_is_kept, device_bytes_agree, node_is_executed, only_touched_kinds_count,
     places_agree_as_lists,
 };
-pub use growth_laws::{
-    fenced_log_grows, fenced_log_is_sound, sound_log_begins_soundly, sound_log_grows,
-    trackers_keep_logs_sound,
-};
+pub use growth_laws::{sound_log_begins_soundly, sound_log_grows, trackers_keep_logs_sound};
 pub use node_laws::{copy_is_exact, image_writes_are_exact};
 pub use order_laws::{
     conflict_is_mutual, each_item_finds_log_order, order_goes_on, permitted_orders,
@@ -67,47 +64,4 @@ pub fn conflict(a: &Node, b: &Node) -> bool
         }
     }
     false
-}
-
-#[cfg(test)]
-mod tests {
-    use super::*;
-    use vk_types::{HandleId, Op};
-
-    fn fill(id: u64, dst_at: u64, size: u64) -> Node {
-        Node {
-            op: Op::FillBuffer {
-                dst: HandleId(id),
-                dst_at,
-                size,
-                byte: 7,
-            },
-        }
-    }
-
-    fn copy(from: u64, to: u64) -> Node {
-        Node {
-            op: Op::CopyBuffer {
-                src: HandleId(from),
-                src_at: 0,
-                dst: HandleId(to),
-                dst_at: 0,
-                size: 4,
-            },
-        }
-    }
-
-    #[test]
-    fn ranges_that_meet_do_not_overlap(rt: HostRuntime) {
-        assert!(rt; conflict(&fill(1, 0, 4), &fill(1, 3, 4)));
-        assert!(rt; !conflict(&fill(1, 0, 4), &fill(1, 4, 4)));
-        assert!(rt; !conflict(&fill(1, 0, 4), &fill(2, 0, 4)));
-    }
-
-    #[test]
-    fn reads_do_not_conflict(rt: HostRuntime) {
-        assert!(rt; !conflict(&copy(1, 2), &copy(1, 3)));
-        assert!(rt; conflict(&copy(1, 2), &copy(2, 3)));
-        assert!(rt; conflict(&copy(2, 3), &copy(1, 2)));
-    }
 }
