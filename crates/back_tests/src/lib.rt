@@ -1,8 +1,10 @@
-//! A share group's back over devices in memory, as tests.
+//! Tests of a share group's back over devices in memory, and of these devices.
 #![tactic(auto)]
 
 #[cfg(test)]
 mod copying;
+#[cfg(test)]
+mod devices;
 #[cfg(test)]
 mod queueing;
 #[cfg(test)]

@@ -4,7 +4,5 @@
 mod command;
 mod number;
 mod options;
-#[cfg(test)]
-mod tests;
 
 pub use command::{Command, command_of};

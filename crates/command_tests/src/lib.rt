@@ -1,5 +1,7 @@
-// Tests of the command line against a second reader: the crate `clap`.
+// Tests of the command line: worked lines, and a second reader, the crate `clap`.
 #![tactic(auto)]
 
+#[cfg(test)]
+mod lines;
 #[cfg(test)]
 mod tests;

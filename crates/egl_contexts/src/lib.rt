@@ -21,9 +21,6 @@ use std::marker::Model;
 use tables::Table;
 use vk_types::SerialIndex;
 
-#[cfg(test)]
-mod tests;
-
 /// The contexts of a share group, at most eight, and its declared threads.
 #[derive(Drop)]
 pub struct Contexts {

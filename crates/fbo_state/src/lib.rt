@@ -4,8 +4,6 @@
 mod attachment;
 mod framebuffer;
 mod status;
-#[cfg(test)]
-mod tests;
 
 pub use attachment::Attachment;
 pub use framebuffer::Framebuffer;

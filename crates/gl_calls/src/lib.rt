@@ -5,8 +5,6 @@ mod call;
 mod copy;
 mod payload;
 mod reply;
-#[cfg(test)]
-mod tests;
 mod words;
 
 pub use call::{Call, PixelDestination, PixelSource, WaitEnd};

@@ -11,8 +11,6 @@ mod dispatch;
 mod framebuffers;
 mod gather;
 mod images;
-#[cfg(test)]
-mod tests;
 
 pub use decision::Decision;
 pub use dispatch::decide;

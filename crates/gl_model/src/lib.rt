@@ -9,8 +9,6 @@ mod objects;
 mod opening;
 mod state;
 mod storage;
-#[cfg(test)]
-mod tests;
 
 pub use counted::{Counted, HasBytes};
 pub use framebuffers::read_attachment;

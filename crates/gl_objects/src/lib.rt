@@ -8,8 +8,6 @@ mod ids;
 mod names;
 mod object;
 mod table;
-#[cfg(test)]
-mod tests;
 
 pub use ids::ObjectId;
 pub use table::NameTable;

@@ -22,8 +22,6 @@ mod state;
 mod storage;
 mod sweep;
 mod syncs;
-#[cfg(test)]
-mod tests;
 mod textures;
 
 pub use applied::{Applied, Switched};

@@ -12,9 +12,6 @@ use std::marker::Model;
 use tables::Table;
 use vk_types::QueueSerial;
 
-#[cfg(test)]
-mod tests;
-
 /// Sync objects, each with the serial of the batch that signals it.
 #[derive(Drop)]
 pub struct Syncs {

@@ -16,6 +16,20 @@ const IMAGE: Kind = Kind::Image {
     height: 2,
 };
 
+// Two columns and two rows of one signed byte.
+const SIGNED: Kind = Kind::Image {
+    format: 1,
+    width: 2,
+    height: 2,
+};
+
+const SQUARE: Rect = Rect {
+    x: 0,
+    y: 0,
+    w: 2,
+    h: 2,
+};
+
 #[test]
 fn a_copy_moves_its_range(rt: HostRuntime) -> Result<(), Fail> {
     let op = Op::CopyBuffer {
@@ -81,6 +95,47 @@ fn a_later_row_goes_over_an_earlier_one(rt: HostRuntime) -> Result<(), Fail> {
     };
     let bytes = after(rt.alloc(), IMAGE, &[1, 2, 3, 4, 5, 6], BUFFER, &[0; 6], op)?;
     assert_eq!(rt; bytes.as_slice(), [0, 1, 4, 5, 6, 0].as_slice());
+    Ok(())
+}
+
+/// A texel keeps its bits, and a later row goes over an earlier one in a buffer that is as long as the rows.
+#[test]
+fn signed_rows_overlap(rt: HostRuntime) -> Result<(), Fail> {
+    let op = Op::ImageToBuffer {
+        src: A,
+        rect: SQUARE,
+        dst: B,
+        dst_at: 1,
+        stride: 1,
+        texel_size: 1,
+        expand: false,
+    };
+    let buffer = Kind::Buffer { size: 4 };
+    let bytes = after(rt.alloc(), SIGNED, &[1, 2, 255, 4], buffer, &[0; 4], op)?;
+    assert_eq!(rt; bytes.as_slice(), [0, 1, 255, 4].as_slice());
+    Ok(())
+}
+
+/// A signed texel keeps its value in a word.
+#[test]
+fn signed_texels_expand(rt: HostRuntime) -> Result<(), Fail> {
+    let op = Op::ImageToBuffer {
+        src: A,
+        rect: SQUARE,
+        dst: B,
+        dst_at: 0,
+        stride: 32,
+        texel_size: 1,
+        expand: true,
+    };
+    let buffer = Kind::Buffer { size: 64 };
+    let bytes = after(rt.alloc(), SIGNED, &[1, 2, 255, 4], buffer, &[7; 64], op)?;
+    assert_eq!(rt; bytes.len(), 64);
+    assert_eq!(rt;
+        &bytes[..17],
+        [1, 0, 0, 0, 0, 0, 0, 0, 0, 0, 0, 0, 1, 0, 0, 0, 2].as_slice()
+    );
+    assert_eq!(rt; &bytes[32..36], [255, 255, 255, 255].as_slice());
     Ok(())
 }
 

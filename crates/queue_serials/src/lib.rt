@@ -7,6 +7,3 @@
 mod indexes;
 
 pub use indexes::{Full, Indexes};
-
-#[cfg(test)]
-mod tests;

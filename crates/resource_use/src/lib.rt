@@ -6,6 +6,3 @@ mod uses;
 
 use one_use::Use;
 pub use uses::ResourceUse;
-
-#[cfg(test)]
-mod tests;

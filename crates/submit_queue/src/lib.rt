@@ -11,6 +11,3 @@ mod queue;
 
 pub use laws::completed_numbers;
 pub use queue::SubmitQueue;
-
-#[cfg(test)]
-mod tests;

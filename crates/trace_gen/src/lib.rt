@@ -8,8 +8,6 @@
 mod first;
 mod last;
 mod rounds;
-#[cfg(test)]
-mod tests;
 mod whole;
 
 pub use whole::generate;

@@ -1,2 +1,1 @@
-pub mod FourNodes
 pub mod Fuses

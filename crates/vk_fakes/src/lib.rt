@@ -8,6 +8,3 @@ mod soft;
 pub use fake::FakeDevice;
 pub use fuse::FuseDevice;
 pub use soft::SoftDevice;
-
-#[cfg(test)]
-mod tests;

@@ -14,6 +14,3 @@ mod texels;
 
 pub use nodes::execute;
 pub use objects::Objects;
-
-#[cfg(test)]
-mod tests;

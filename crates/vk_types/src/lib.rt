@@ -20,6 +20,3 @@ pub use lists::{Clears, Nodes, SignalNumbers};
 pub use ops::{Load, Node, Op};
 pub use regions::{Barrier, Clear, Coords, Rect, Touch};
 pub use stops::Stop;
-
-#[cfg(test)]
-mod tests;

@@ -1,5 +1,5 @@
-use crate::{Counted, GroupState, ImageInfo};
 use formats::{EglError, Format};
+use gl_model::{Counted, GroupState, ImageInfo};
 use std::test::Fail;
 
 #[test]

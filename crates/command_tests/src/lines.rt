@@ -1,4 +1,4 @@
-use crate::{Command, command_of};
+use command_line::{Command, command_of};
 use std::test::Fail;
 
 const ONCE: Option<Command> = Some(Command::Once {

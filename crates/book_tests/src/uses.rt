@@ -1,4 +1,4 @@
-use crate::ResourceUse;
+use resource_use::ResourceUse;
 use std::test::Fail;
 use vk_types::{QueueSerial, SerialIndex};
 

@@ -1,6 +1,6 @@
-use crate::generate;
 use std::str;
 use std::test::Fail;
+use trace_gen::generate;
 use trace_text::parse;
 
 const FIRST_THREAD: &str =

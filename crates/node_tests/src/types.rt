@@ -1,8 +1,8 @@
-use crate::{
+use std::test::Fail;
+use vk_types::{
     Access, Batch, Clear, Clears, HandleId, Load, Node, Nodes, Op, Reason, Rect, SerialIndex,
     SignalNumbers,
 };
-use std::test::Fail;
 
 fn rect(w: u32, h: u32) -> Rect {
     Rect { x: 0, y: 0, w, h }

@@ -1,6 +1,6 @@
-use crate::{Decision, decide};
 use formats::EglError;
 use gl_calls::{Call, LimitName, Reply};
+use gl_errors::{Decision, decide};
 use gl_model::GroupState;
 use std::test::Fail;
 

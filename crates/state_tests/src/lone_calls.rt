@@ -1,6 +1,6 @@
-use crate::{SharedState, create_sync, fence_sync, get_error, refuse};
 use formats::EglError;
 use gl_calls::{Call, Reply};
+use gl_state::{SharedState, create_sync, fence_sync, get_error, refuse};
 use std::test::Fail;
 
 #[test]

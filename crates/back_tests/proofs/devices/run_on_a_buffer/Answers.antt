@@ -6,7 +6,7 @@ use Rattle.vk_device.specs.declared.logged.Logged.{Logged}
 use Rattle.vk_device.specs.declared.logged.Logged.TheVariants.{Created}
 use Rattle.vk_device.specs.Journal.{kind_of, objects_after}
 use Rattle.vk_device.proofs.Laws.{kind_of-push}
-use Rattle.vk_fakes.proofs.tests.run_on_a_buffer.Goals as goal
+use Rattle.back_tests.proofs.devices.run_on_a_buffer.Goals as goal
 
 -- a new object has the kind that it was given
 created_kind : (journal : List Logged) (id : HandleId) (kind : Kind) → kind_of (journal ++ Created id kind ∷ []) id.0 ≡ Some kind

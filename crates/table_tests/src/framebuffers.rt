@@ -1,4 +1,4 @@
-use crate::{Attachment, Framebuffer, ImageInfo};
+use fbo_state::{Attachment, Framebuffer, ImageInfo};
 use formats::{FbStatus, Format};
 use gl_objects::ObjectId;
 use std::test::Fail;

@@ -1,4 +1,4 @@
-use crate::Syncs;
+use gl_sync::Syncs;
 use std::test::Fail;
 use vk_types::{QueueSerial, SerialIndex};
 

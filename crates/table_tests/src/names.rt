@@ -1,4 +1,4 @@
-use crate::NameTable;
+use gl_objects::NameTable;
 use std::test::Fail;
 
 #[test]

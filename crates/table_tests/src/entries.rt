@@ -1,5 +1,5 @@
-use crate::Table;
 use std::test::Fail;
+use tables::Table;
 
 #[test]
 fn entries_stand_in_rising_order(rt: HostRuntime) -> Result<(), Fail> {

@@ -4,11 +4,11 @@ ghost use Rattle.vk_types.specs.declared.ops.Op.TheVariants.{FillBuffer};
 ghost use Rattle.vk_types.specs.declared.handles.Kind.TheVariants.{Buffer};
 ghost use Rattle.vk_device.specs.Journal.{kind_of};
 ghost use Rattle.vk_device.specs.Order.{IsOfOneQueue};
-ghost use Rattle.vk_fakes.specs.FourNodes.{AreFourNodes};
+ghost use Rattle.back_tests.specs.FourNodes.{AreFourNodes};
 
-use crate::{FakeDevice, FuseDevice, SoftDevice};
 use std::alloc::Global;
 use vk_device::{Device, Turned};
+use vk_fakes::{FakeDevice, FuseDevice, SoftDevice};
 use vk_types::{
     Access, Barrier, Batch, HandleId, Kind, Node, Nodes, Op, Reason, SerialIndex, SignalNumbers,
     Stop,

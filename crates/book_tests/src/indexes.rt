@@ -1,4 +1,4 @@
-use crate::{Full, Indexes};
+use queue_serials::{Full, Indexes};
 
 /// Eight indexes are given, the lowest first; one that was given back is given again and goes on counting.
 #[test]

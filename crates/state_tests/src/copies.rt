@@ -1,8 +1,8 @@
-use crate::{
+use cells::Bytes;
+use gl_calls::{
     AttachPoint, BufferTarget, Call, DrawBuffer, DrawBufferList, Entry, NameList, Payload,
     PixelSource, Reply, Usage,
 };
-use cells::Bytes;
 use std::alloc::Global;
 use std::test::Fail;
 

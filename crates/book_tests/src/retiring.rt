@@ -2,9 +2,9 @@
 ghost use Rattle.std.specs.Prelude.{◌<◌, length};
 ghost use Rattle.submit_queue.specs.Histories.{item_count};
 
-use crate::SubmitQueue;
 use std::alloc::Global;
 use std::test::Fail;
+use submit_queue::SubmitQueue;
 use vk_types::{Batch, HandleId, Node, Nodes, Op, QueueSerial, Reason, SerialIndex, SignalNumbers};
 
 fn fill(dst_at: u64) -> Node {

@@ -1,4 +1,4 @@
-use crate::{Contexts, CreateStop};
+use egl_contexts::{Contexts, CreateStop};
 use formats::EglError;
 use std::test::Fail;
 use vk_types::SerialIndex;
