@@ -1,6 +1,5 @@
 // The store of a buffer.
 ghost use Rattle.std.specs.Prelude.{◌≡◌, ℕ, max, cond, ◌==◌, OnOk, OnErr};
-ghost use Rattle.vk_types.specs.Accesses.{host_read};
 ghost use Rattle.resource_use.specs.Uses.{number_of, noted};
 ghost use Rattle.barriers.specs.Trackers.{due_by};
 ghost use Rattle.buffer_helper.specs.Buffers.{new_store, access_of, accessed, fenced, heard};
@@ -97,12 +96,11 @@ impl BufferHelper {
         due
     }
 
-    /// The barrier that is due before the host reads the store.
-    pub fn due_opening(&self) -> Option<Barrier>
-        ensures { result ≡ due_by self.now.tracker (access_of self.now.handle host_read) }
+    /// The barrier that is due before nodes, or the host, access the store so.
+    pub fn due(&self, access: Access) -> Option<Barrier>
+        ensures { result ≡ due_by self.now.tracker (access_of self.now.handle access) }
     {
-        self.tracker
-            .before(&whole(self.handle.id(), Access::HOST_READ))
+        self.tracker.before(&whole(self.handle.id(), access))
     }
 
     /// Takes in a barrier of the store.

@@ -2,7 +2,5 @@
 #![tactic(auto)]
 
 mod helper;
-#[cfg(test)]
-mod tests;
 
 pub use helper::BufferHelper;

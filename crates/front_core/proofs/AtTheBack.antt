@@ -1,15 +1,14 @@
 -- What a call does at the back, from what the moves that it is made of do there.
-use Rattle.std.proofs.Common.{arith, ◌≡◌, ◌≢◌, ℕ, ◌+◌, ◌<◌, ◌≤◌, Bool, true, false, Option, Some, None, List, [], ◌∷◌, length, refl, sym, ◌∙◌, ap, subst, inl, inr}
-use Rattle.std.specs.Prelude.{◌⊎◌, Contains, Result, IfOk}
+use Rattle.std.proofs.Common.{arith, ◌≡◌, ◌≢◌, ℕ, ◌+◌, ◌<◌, ◌≤◌, Bool, true, false, Option, Some, None, List, [], ◌∷◌, length, refl, sym, ◌∙◌, ap, subst, inl, inr, get_or, zero, suc}
+use Rattle.std.specs.Prelude.{◌⊎◌, Contains, Result, IfOk, not, ℤ, ◌==◌}
 use Rattle.std.specs.Option.{option_map_or}
-use Rattle.std.proofs.lemmas.Bool.{false≢true}
+use Rattle.std.proofs.lemmas.Bool.{false≢true, cases_eq, eq-eqb, ne_eqb}
 use Rattle.vk_types.specs.declared.batches.Batch.{Batch}
 use Rattle.vk_types.specs.declared.batches.QueueSerial.{QueueSerial}
 use Rattle.vk_types.specs.declared.batches.Reason.{Reason}
 use Rattle.vk_types.specs.declared.batches.Reason.TheVariants as reason
 use Rattle.vk_types.specs.declared.ops.Node.{Node}
 use Rattle.vk_types.specs.declared.stops.Stop.{Stop}
-use Rattle.vk_model.proofs.Places.{contains_none, contains_cons_cases}
 use Rattle.gl_calls.specs.declared.call.Call.{Call}
 use Rattle.gl_calls.specs.declared.call.Call.TheVariants as call
 use Rattle.gl_calls.specs.declared.reply.Reply.{Reply}
@@ -71,55 +70,83 @@ flush_is_switch f group serials thread number index is batch flush = record {
 pub switch_is_true : (f : Face) (group : GroupState) (serials : Entries ℕ) (thread number : ℕ) (batch : Batch) → IsSwitch group serials thread number batch → IsTrueReason f group serials thread (call.MakeCurrent number) batch
 switch_is_true f group serials thread number batch is = economy.switch is.replaced is.for_reason
 
--- what holds of each of one or two buffers holds of each of their list
-pub each_of_one : (P : ℕ → Type 0) (b : ℕ) → P b → (c : ℕ) → Contains (b ∷ []) c → P c
-each_of_one P b has c listed = one (contains_cons_cases b [] c listed)
+-- what stands in a list is its first element, or stands behind it
+one_of : {A : Type 0} (x : A) (xs : List A) (y : A) → Contains (x ∷ xs) y → (x ≡ y) ⊎ Contains xs y
+one_of x xs y has = go has.0 has.1 has.2
+  where
+    go : (i : ℕ) → i < length (x ∷ xs) → get_or (x ∷ xs) i y ≡ y → (x ≡ y) ⊎ Contains xs y
+    go zero lt e = inl e
+    go (suc i) lt e = inr (i, omega arith, e)
+
+-- what holds of each of one or two uses holds of each of their list
+pub each_of_one : (P : ℕ × Bool → Type 0) (b : ℕ × Bool) → P b → (c : ℕ × Bool) → Contains (b ∷ []) c → P c
+each_of_one P b has c listed = one (one_of b [] c listed)
   where
     one : (b ≡ c) ⊎ Contains [] c → P c
     one (inl same) = subst P same has
-    one (inr none) = absurd (contains_none c none)
+    one (inr none) = absurd (omega (arith, none.1))
 
-pub each_of_two : (P : ℕ → Type 0) (a b : ℕ) → P a → P b → (c : ℕ) → Contains (a ∷ b ∷ []) c → P c
-each_of_two P a b first second c listed = two (contains_cons_cases a (b ∷ []) c listed)
+pub each_of_two : (P : ℕ × Bool → Type 0) (a b : ℕ × Bool) → P a → P b → (c : ℕ × Bool) → Contains (a ∷ b ∷ []) c → P c
+each_of_two P a b first second c listed = two (one_of a (b ∷ []) c listed)
   where
     two : (a ≡ c) ⊎ Contains (b ∷ []) c → P c
     two (inl same) = subst P same first
     two (inr rest) = each_of_one P b second c rest
 
 -- what goes before a node on buffers that the call uses
-pub parting_is_true : (f : Face) (group : GroupState) (serials : Entries ℕ) (thread : ℕ) (asked : Call) (index : ℕ) (buffers : List ℕ) → current_index group serials thread ≡ Some index →
-    ((b : ℕ) → Contains buffers b → IsUsedBy group thread asked b) → (batch : Batch) → IsParting f index buffers batch → IsTrueReason f group serials thread asked batch
-parting_is_true f group serials thread asked index buffers current used batch (moves.cross b listed is) = economy.cross index b current (used b listed) is
-parting_is_true f group serials thread asked index buffers current used batch (moves.full is) = economy.full is
+pub parting_is_true : (f : Face) (group : GroupState) (serials : Entries ℕ) (thread : ℕ) (asked : Call) (index : ℕ) (used : List (ℕ × Bool)) → current_index group serials thread ≡ Some index →
+    ((u : ℕ × Bool) → Contains used u → IsUsedBy group thread asked u) → (batch : Batch) → IsParting f index used batch → IsTrueReason f group serials thread asked batch
+parting_is_true f group serials thread asked index used current each batch (moves.cross b reads listed is) = economy.cross index b reads current (each (b, reads) listed) is
+parting_is_true f group serials thread asked index used current each batch (moves.full is) = economy.full is
 
 -- what goes before the host uses the buffer that is mapped
 pub settling_is_true : (f : Face) (group : GroupState) (serials : Entries ℕ) (thread : ℕ) (asked : Call) (index b : ℕ) → current_index group serials thread ≡ Some index →
-    IsUsedBy group thread asked b → maps_a_buffer asked ≡ true → (batch : Batch) → IsSettling f index b batch → IsTrueReason f group serials thread asked batch
+    IsUsedBy group thread asked (b, false) → maps_a_buffer asked ≡ true → (batch : Batch) → IsSettling f index b batch → IsTrueReason f group serials thread asked batch
 settling_is_true f group serials thread asked index b current used maps batch (moves.parting is) =
-    parting_is_true f group serials thread asked index (b ∷ []) current (each_of_one (IsUsedBy group thread asked) b used) batch is
+    parting_is_true f group serials thread asked index ((b, false) ∷ []) current (each_of_one (IsUsedBy group thread asked) (b, false) used) batch is
 settling_is_true f group serials thread asked index b current used maps batch (moves.reading of_index for_reason some) =
     economy.read maps (current ∙ ap Some (sym of_index)) for_reason some
 
 -- the buffer that is bound to the first or the second target that a call uses
-pub used_first : (group : GroupState) (thread : ℕ) (asked : Call) (context : Context) (target : BufferTarget) (rest : List BufferTarget) (b : ℕ) → used_targets asked ≡ target ∷ rest →
-    current_context group thread ≡ Some context → buffer_binding context target ≡ Some b → IsUsedBy group thread asked b
-used_first group thread asked context target rest b uses current bound = record {
+pub used_first : (group : GroupState) (thread : ℕ) (asked : Call) (context : Context) (target : BufferTarget) (reads : Bool) (rest : List (BufferTarget × Bool)) (b : ℕ) → used_targets asked ≡ (target, reads) ∷ rest →
+    current_context group thread ≡ Some context → buffer_binding context target ≡ Some b → IsUsedBy group thread asked (b, reads)
+used_first group thread asked context target reads rest b uses current bound = record {
   context = context;
   target = target;
   current = current;
-  listed = subst (λ ts. Contains ts target) (sym uses) (0, omega arith, refl);
+  listed = subst (λ ts. Contains ts (target, reads)) (sym uses) (0, omega arith, refl);
   bound = bound;
 }
 
-pub used_second : (group : GroupState) (thread : ℕ) (asked : Call) (context : Context) (first target : BufferTarget) (rest : List BufferTarget) (b : ℕ) → used_targets asked ≡ first ∷ target ∷ rest →
-    current_context group thread ≡ Some context → buffer_binding context target ≡ Some b → IsUsedBy group thread asked b
-used_second group thread asked context first target rest b uses current bound = record {
+pub used_second : (group : GroupState) (thread : ℕ) (asked : Call) (context : Context) (first : BufferTarget × Bool) (target : BufferTarget) (reads : Bool) (rest : List (BufferTarget × Bool)) (b : ℕ) → used_targets asked ≡ first ∷ (target, reads) ∷ rest →
+    current_context group thread ≡ Some context → buffer_binding context target ≡ Some b → IsUsedBy group thread asked (b, reads)
+used_second group thread asked context first target reads rest b uses current bound = record {
   context = context;
   target = target;
   current = current;
-  listed = subst (λ ts. Contains ts target) (sym uses) (1, omega arith, refl);
+  listed = subst (λ ts. Contains ts (target, reads)) (sym uses) (1, omega arith, refl);
   bound = bound;
 }
+
+-- the buffers of a copy: the source is read alone where it is another buffer than the target
+pub used_by_copy : (group : GroupState) (thread : ℕ) (context : Context) (from to : BufferTarget) (read write size : ℤ) (src dst : ℕ) →
+    current_context group thread ≡ Some context → buffer_binding context from ≡ Some src → buffer_binding context to ≡ Some dst →
+    (u : ℕ × Bool) → Contains ((src, not (src == dst)) ∷ (dst, false) ∷ []) u → IsUsedBy group thread (call.CopyBufferSubData from to read write size) u
+used_by_copy group thread context from to read write size src dst current source target =
+    each_of_two (IsUsedBy group thread asked) (src, not (src == dst)) (dst, false) (go (cases_eq src dst)) second
+  where
+    asked : Call
+    asked = call.CopyBufferSubData from to read write size
+
+    first : IsUsedBy group thread asked (src, true)
+    first = used_first group thread asked context from true ((to, false) ∷ []) src refl current source
+
+    second : IsUsedBy group thread asked (dst, false)
+    second = used_second group thread asked context (from, true) to false [] dst refl current target
+
+    go : (src ≡ dst) ⊎ (src ≡ dst → ⊥) → IsUsedBy group thread asked (src, not (src == dst))
+    go (inl same) = subst (IsUsedBy group thread asked) (ap (λ b. (b, false)) (sym same) ∙ ap (λ r. (src, not r)) (sym (eq-eqb src dst same))) second
+    go (inr other) = subst (λ r. IsUsedBy group thread asked (src, not r)) (sym (ne_eqb src dst other)) first
 
 -- Need
 
@@ -181,7 +208,7 @@ replaces_none group serials thread asked none = refl
 has_nodes : (f : Face) (group : GroupState) (serials : Entries ℕ) (thread : ℕ) (asked : Call) → replaced_by group serials thread asked ≡ None → (batch : Batch) → IsTrueReason f group serials thread asked batch → batch.nodes ≢ []
 has_nodes f group serials thread asked replaces batch (economy.switch replaced for_reason) = let both : None ≡ Some batch.index = sym replaces ∙ replaced in let bad : ⊥ = cc in absurd bad
 has_nodes f group serials thread asked replaces batch (economy.read maps current for_reason some) = some
-has_nodes f group serials thread asked replaces batch (economy.cross index b current used is) = touching_has_nodes batch is.reaches.stored.handle is.reaches.touches
+has_nodes f group serials thread asked replaces batch (economy.cross index b reads current used is) = touching_has_nodes batch is.reaches.stored.handle is.reaches.touches
 has_nodes f group serials thread asked replaces batch (economy.full is) = full_has_nodes batch is
 
 -- what is pending as a front ends

@@ -7,7 +7,7 @@ use Rattle.gl_model.specs.GroupState.{opening_group}
 use Rattle.gl_model.specs.GroupModel.{opening}
 use Rattle.back_core.specs.Link.{Link, IsNew}
 use Rattle.front_model.specs.Face.{Object, Buffer, Texture, Renderbuffer, Stored, Face, outline}
-use Rattle.front_model.specs.Stands.{InHand, Holds, Owns, no_hands}
+use Rattle.front_model.specs.Stands.{InHand, Holds, Owns, BarriersAreLicensed, no_hands}
 use Rattle.front_model.specs.Wanted.{kind_wanted, wanted, IsMapped, Stands}
 use Rattle.front_core.specs.Share.{HaveIndexes}
 
@@ -80,10 +80,11 @@ no_indexes group = record {
     none_some i h = cc
 
 -- where no object has a store, each is owned
-pub none_owned : (f : Face) (s : Link) → ((o : Object) → f.objects o ≡ None) → Owns f.objects s
-none_owned f s none = record {
+pub none_owned : (f : Face) (s : Link) → ((o : Object) → f.objects o ≡ None) → BarriersAreLicensed s → Owns f.objects s
+none_owned f s none licensed = record {
   owner = λ id. InHand;
   each = λ o b at. absurd (none_some b (sym (none o) ∙ at));
+  licensed = licensed;
 }
   where
     none_some : (b : Stored) → None ≡ Some b → ⊥

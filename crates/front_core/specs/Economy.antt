@@ -62,20 +62,20 @@ may_wait _ = false
 abbrev pub waits_of : GroupState → ℕ → Call → Bool
 waits_of group thread asked = option_map_or (λ answer. false) (refusal group thread asked) (may_wait asked)
 
--- the targets whose buffers a call copies from or to on the device, or maps
-abbrev pub used_targets : Call → List BufferTarget
-used_targets (call.BufferSubData target offset payload) = target ∷ []
-used_targets (call.CopyBufferSubData from to read write size) = from ∷ to ∷ []
-used_targets (call.MapBufferRange target offset len access) = target ∷ []
+-- the targets whose buffers a call copies from or to on the device, or maps, each with whether it reads the buffer alone
+abbrev pub used_targets : Call → List (BufferTarget × Bool)
+used_targets (call.BufferSubData target offset payload) = (target, false) ∷ []
+used_targets (call.CopyBufferSubData from to read write size) = (from, true) ∷ (to, false) ∷ []
+used_targets (call.MapBufferRange target offset len access) = (target, false) ∷ []
 used_targets _ = []
 
--- the call copies from or to this buffer, or maps it
-pub record IsUsedBy (group : GroupState) (thread : ℕ) (asked : Call) (b : ℕ) : Type 0 where
+-- the call copies from or to this buffer, or maps it; where it is said to read alone, it copies from it
+pub record IsUsedBy (group : GroupState) (thread : ℕ) (asked : Call) (used : ℕ × Bool) : Type 0 where
   pub context : Context
   pub target : BufferTarget
   pub current : current_context group thread ≡ Some context
-  pub listed : Contains (used_targets asked) target
-  pub bound : buffer_binding context target ≡ Some b
+  pub listed : Contains (used_targets asked) (target, used.1)
+  pub bound : buffer_binding context target ≡ Some used.0
 
 abbrev pub maps_a_buffer : Call → Bool
 maps_a_buffer (call.MapBufferRange target offset len access) = true
@@ -96,14 +96,14 @@ pub record IsSwitch (group : GroupState) (serials : Entries ℕ) (thread number 
   pub for_reason : batch.reason ≡ reason.Switch
 
 -- The reason of a batch is true of the call that handed it over: the call replaces the batch's context; it maps a buffer in the
--- batch's context, where something is pending; it uses a buffer that the batch of another context touches; or the batch is as long
--- as one may get.
+-- batch's context, where something is pending; it uses a buffer in conflict with the batch of another context; or the batch is as
+-- long as one may get.
 pub data IsTrueReason (f : Face) (group : GroupState) (serials : Entries ℕ) (thread : ℕ) (asked : Call) (batch : Batch) : Type 0 where
   switch : replaced_by group serials thread asked ≡ Some batch.index → batch.reason ≡ reason.Switch → IsTrueReason f group serials thread asked batch
   read : maps_a_buffer asked ≡ true → current_index group serials thread ≡ Some batch.index → batch.reason ≡ reason.Read →
       batch.nodes ≢ [] → IsTrueReason f group serials thread asked batch
-  cross : (index b : ℕ) → current_index group serials thread ≡ Some index → IsUsedBy group thread asked b → IsCross f index b batch →
-      IsTrueReason f group serials thread asked batch
+  cross : (index b : ℕ) (reads : Bool) → current_index group serials thread ≡ Some index → IsUsedBy group thread asked (b, reads) →
+      IsCross f index b reads batch → IsTrueReason f group serials thread asked batch
   full : IsFull batch → IsTrueReason f group serials thread asked batch
 
 -- the context that is current on a thread hands over for a reason

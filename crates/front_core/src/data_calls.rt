@@ -138,7 +138,7 @@ impl Share {
         ensures group { (face self.new.core).group ≡ (face self.old.core).group }
         ensures err { OnErr result (Owns (face self.new.core).objects (L.state link.new)) }
         ensures cause { HasCause (L.faults link.old) (L.faults link.new) result }
-        ensures at_back { ActsAtBack L.state L.told link.old link.new (length bytes.now) false (is_err result) (IsParting (face self.old.core) index (buffer ∷ [])) }
+        ensures at_back { ActsAtBack L.state L.told link.old link.new (length bytes.now) false (is_err result) (IsParting (face self.old.core) index ((buffer, false) ∷ [])) }
     {
         buffers_are_filled();
         if bytes.is_empty() {

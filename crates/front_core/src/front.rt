@@ -4,7 +4,7 @@ ghost use Rattle.std.specs.Vec.{vec_len, vec_capacity};
 ghost use Rattle.vk_device.specs.Faults.{HasCause};
 ghost use Rattle.gl_model.specs.Refusal.{refusal};
 ghost use Rattle.gl_model.specs.Sizes.{HasItsData};
-ghost use Rattle.front_model.specs.Stands.{Owns};
+ghost use Rattle.front_model.specs.Stands.{Owns, BarriersAreLicensed};
 ghost use Rattle.front_moves.specs.Core.{face};
 ghost use Rattle.front_core.specs.Share.{HasOrigin, is_built, is_map_read};
 ghost use Rattle.front_core.specs.Polls.{Polls, Flushes};
@@ -122,6 +122,7 @@ impl Front {
         ensures cause { HasCause (L.faults link.old) (L.faults link.new) result }
         ensures at_back { ActsAtBack L.state L.told link.old link.new (due_of self.old.state thread call.now) (waits_of self.old.state thread call.now) (is_err result)
             (MayHandOver (face self.old.core) self.old.state self.old.serials self.old.syncs thread call.now) }
+        ensures licensed { BarriersAreLicensed (L.state link.new) }
     {
         histories_come_to();
         self.share.state.objects_are_referred_to();
@@ -173,6 +174,7 @@ impl Front {
         ensures err { OnErr result (HasStopped self.old self.new (L.state link.new)) }
         ensures cause { HasCause (L.faults link.old) (L.faults link.new) result }
         ensures at_back { ActsAtBack L.state L.told link.old link.new 0 false (is_err result) (IsEndingBatch self.old.syncs) }
+        ensures licensed { BarriersAreLicensed (L.state link.new) }
     {
         histories_come_to();
         match self.share.flush_all(link, &self.syncs) {

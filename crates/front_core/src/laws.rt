@@ -4,10 +4,11 @@ ghost use Rattle.gl_calls.specs.declared.reply.Entry.{Entry};
 ghost use Rattle.gl_model.specs.Reached.{reached};
 ghost use Rattle.back_core.specs.Answers.{Learns};
 ghost use Rattle.back_core.specs.Link.{Link};
+ghost use Rattle.front_model.specs.Stands.{BarriersAreLicensed};
 ghost use Rattle.front_core.specs.Economy.{due_of, due_over};
 ghost use Rattle.front_core.specs.Front.{FrontModel, FrontStands};
 
-use front_model::{link_steps_show, quiet_objects_stay, steps_hold};
+use front_model::{link_steps_show, quiet_objects_stay, steps_hold, steps_may};
 use gl_model::group_is_a_projection;
 use sync_serials::syncs_stand_on;
 
@@ -19,6 +20,13 @@ pub fn fronts_go_on_standing()
     link_steps_show();
     quiet_objects_stay();
     syncs_stand_on();
+}
+
+/// Each barrier that the group of a front had the back do was licensed where it stands.
+pub fn fronts_license_barriers()
+    ensures { (f : FrontModel) (s : Link) → FrontStands f s → BarriersAreLicensed s }
+{
+    steps_may();
 }
 
 /// The bytes that are due over a history grow by those that are due for its next call.

@@ -21,4 +21,4 @@ mod sync_calls;
 mod syncs_come_to;
 
 pub use front::Front;
-pub use laws::{dues_grow, fronts_go_on_standing};
+pub use laws::{dues_grow, fronts_go_on_standing, fronts_license_barriers};

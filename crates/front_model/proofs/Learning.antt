@@ -16,6 +16,7 @@ knowing_owns : (objects : Object → Option Stored) (s : Link) (d : ℕ → ℕ)
 knowing_owns objects s d n a owns = record {
   owner = owns.owner;
   each = λ o b at. let u : StoredOwned s owns.owner o b = owns.each o b at in record { held = u.held; owned = u.owned; waiting = u.waiting };
+  licensed = owns.licensed;
 }
 
 pub learned_owns : (objects : Object → Option Stored) (s t : Link) → Owns objects s → Learns s t → Owns objects t

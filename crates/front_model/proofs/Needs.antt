@@ -1,7 +1,8 @@
 -- What the calls of the link need follows from what holds of a front.
-use Rattle.std.proofs.Common.{◌≡◌, ◌≢◌, ℕ, ◌+◌, ◌<◌, ◌≤◌, true, false, List, [], ◌++◌, length, flat_map, refl, sym, ◌∙◌, ap, subst, arith, inl, inr}
+use Rattle.std.proofs.Common.{◌≡◌, ◌≢◌, ℕ, ◌+◌, ◌<◌, ◌≤◌, true, false, List, [], ◌∷◌, ◌++◌, length, flat_map, refl, sym, ◌∙◌, ap, subst, arith, inl, inr}
 use Rattle.std.specs.Prelude.{◌⊎◌, Option, Some, None, All, slice_get}
 use Rattle.std.proofs.lemmas.Bool.{cases_Bool, false_from_ne_true, cond-true, cond-false}
+use Rattle.std.proofs.lemmas.List.{append_assoc}
 use Rattle.std.proofs.lemmas.Option.{none-some, same_Some}
 use Rattle.vk_types.specs.declared.handles.Kind.{Kind}
 use Rattle.vk_types.specs.declared.handles.Kind.TheVariants.{Buffer, Image}
@@ -15,11 +16,13 @@ use Rattle.vk_model.specs.Log.{IsSound, NoneEmpty, commands}
 use Rattle.vk_model.specs.Fitting.{HasRange, OpFits, NodeFits}
 use Rattle.resource_use.specs.Uses.{number_of}
 use Rattle.submit_queue.specs.Histories.{last_number}
+use Rattle.barriers.specs.Licence.{Use, Fenced}
+use Rattle.barriers.specs.Logs.{uses_in}
 use Rattle.back_core.specs.Own.{log_of, batches_of, last_use, next_number}
 use Rattle.back_core.specs.Link.{Link, put, abandoned}
 use Rattle.back_core.specs.Needs.{IsOfGroup, HostMay, MayTouch, MayEnqueue, MayGive, HasBatch}
-use Rattle.front_model.specs.Face.{Object, Waiting, Slot, Stored, Face, nodes_touch, indexes_of, IsUpdate}
-use Rattle.front_model.specs.Stands.{Hands, Store, Staging, InHand, SlotStands, StagingStands, Holds, IsQuiet, Owns}
+use Rattle.front_model.specs.Face.{Object, Waiting, Slot, Stored, Face, nodes_touch, indexes_of, in_order, IsUpdate}
+use Rattle.front_model.specs.Stands.{Hands, Store, Staging, InHand, SlotStands, StagingStands, Holds, IsQuiet, Owns, BarriersAreLicensed}
 use Rattle.front_model.specs.Steps.{fresh_slot, AreUses, IsNextBatch}
 use Rattle.front_model.proofs.Base.{put-other}
 use Rattle.front_model.proofs.Sounds.{sound_front}
@@ -115,6 +118,12 @@ module _ (f : Face) (hands : Hands) (s : Link) (h : Holds f hands s) where
   waits_at : (o : Object) (b : Stored) (place id : ℕ) (w : Waiting) → f.objects o ≡ Some b → slice_get b.waiting place ≡ Some w → w.staging ≡ Some id → StagingStands f s h.owner o place id
   waits_at o b place id w at waits is = staging_stands f s h.owner o b.handle place id w is ((h.objects o b at).waiting place w waits)
 
+  -- what was licensed with what is pending behind it was licensed without
+  pub at_back_licensed : BarriersAreLicensed s
+  at_back_licensed id front back barrier e =
+      let pending : List Use = uses_in (commands 0 (in_order f)) id in
+      (h.fenced id).licensed front (back ++ pending) barrier (ap (λ us. us ++ pending) e ∙ append_assoc front (Fenced barrier ∷ back) pending)
+
   pub holds_owns : Owns f.objects s
   holds_owns = record {
     owner = h.owner;
@@ -123,6 +132,7 @@ module _ (f : Face) (hands : Hands) (s : Link) (h : Holds f hands s) where
       owned = (h.objects o b at).owned;
       waiting = λ place id w waits is. let v = waits_at o b place id w at waits is in (v.held, v.owned);
     };
+    licensed = at_back_licensed;
   }
 
   -- what is in hand can be let go
@@ -138,6 +148,7 @@ module _ (f : Face) (hands : Hands) (s : Link) (h : Holds f hands s) where
           waiting = λ place j w waits is. let v = waits_at o b place j w at waits is in
               (stays j (λ e. let k : Staging o place ≡ InHand = sym v.owned ∙ e in cc) v.held, v.owned);
         };
+        licensed = at_back_licensed;
       }
 
 -- A staging buffer is a buffer

@@ -16,7 +16,7 @@ use Rattle.barriers.specs.declared.tracker.Tracker.{Tracker}
 use Rattle.barriers.specs.Licence.{Use, Accessed, barrier_due}
 use Rattle.barriers.specs.Trackers.{Tracks, new_tracker}
 use Rattle.barriers.specs.Logs.{uses_in}
-use Rattle.barriers.specs.Recording.{handle, AreFenced}
+use Rattle.barriers.specs.Recording.{handle, AreLicensed, AreFenced}
 use Rattle.back_core.specs.Own.{Own, HostWrote, Enqueued, HostRead, log_of, batches_of, last_use, IsReadable}
 use Rattle.back_core.specs.Link.{Link, kinds_of}
 use Rattle.back_core.specs.Needs.{IsOfGroup, MayTouch}
@@ -47,9 +47,17 @@ own_uses id (HostWrote i at bytes) = []
 own_uses id (Enqueued batch) = uses_in (commands 0 batch.nodes) id
 own_uses id (HostRead i at bytes) = if i == id then Accessed host_read ∷ [] else []
 
+-- the uses of an object by what the group had the back do
+abbrev pub uses_at_back : List Own → ℕ → List Use
+uses_at_back mine id = flat_map (own_uses id) mine
+
 -- the uses of an object by all that was recorded
 abbrev pub uses_of : Face → Link → ℕ → List Use
-uses_of f s id = flat_map (own_uses id) s.mine ++ uses_in (commands 0 (in_order f)) id
+uses_of f s id = uses_at_back s.mine id ++ uses_in (commands 0 (in_order f)) id
+
+-- each barrier that the group had the back do was licensed where it stands
+abbrev pub BarriersAreLicensed : Link → Type 0
+BarriersAreLicensed s = (id : ℕ) → AreLicensed (handle id) (is_image_of s id) (uses_at_back s.mine id)
 
 -- what its tracker knows of a handle is what was recorded
 abbrev pub IsTrackedBy : Face → Link → Tracker → ℕ → Type 0
@@ -172,7 +180,8 @@ pub record IsQuiet (f : Face) (s : Link) (o : Object) : Type 0 where
   pub known : IsKnownToHost f s stored.handle
   pub readable : (at size : ℕ) → IsReadable (log_of s.mine) stored.handle at size
 
--- What is left when a call ends early: each handle of the front is held, and is there once, so that it can be let go.
+-- What is left when a call ends early: each handle of the front is held, and is there once, so that it can be let go; and each
+-- barrier that the group had the back do was licensed.
 pub record StoredOwned (s : Link) (owner : ℕ → Owner) (o : Object) (b : Stored) : Type 0 where
   pub held : s.held b.handle ≡ true
   pub owned : owner b.handle ≡ Store o
@@ -181,6 +190,7 @@ pub record StoredOwned (s : Link) (owner : ℕ → Owner) (o : Object) (b : Stor
 pub record Owns (objects : Object → Option Stored) (s : Link) : Type 0 where
   pub owner : ℕ → Owner
   pub each : (o : Object) (b : Stored) → objects o ≡ Some b → StoredOwned s owner o b
+  pub licensed : BarriersAreLicensed s
 
 -- A move ended well: the front holds with nothing in hand, has this view and these outlines, and these objects are quiet.
 pub record Moved (f : Face) (s : Link) (shown : Object → ℕ → ℕ) (outlined : Object → Option Outline) (stays : Object → Type 0) : Type 0 where

@@ -22,6 +22,7 @@ use Rattle.front_moves.specs.Buffers.{stored_of, objects_of}
 use Rattle.front_moves.specs.Core.{CoreParts, face}
 use Rattle.front_moves.specs.Recording.{HasBuffer}
 use Rattle.front_moves.proofs.Recordable.{IsFree}
+use Rattle.front_moves.proofs.Sharing.{untouched}
 
 -- the store of a buffer, which is this object of so many bytes
 pub record IsStore (c : CoreParts) (b : ℕ) (id : HandleId) (len : ℕ) : Type 0 where
@@ -30,8 +31,8 @@ pub record IsStore (c : CoreParts) (b : ℕ) (id : HandleId) (len : ℕ) : Type 
   pub handle : store.handle.0 ≡ id.0
   pub size : store.size ≡ len
 
-pub store_of : (c : CoreParts) (index b : ℕ) (id : HandleId) (len : ℕ) → HasBuffer c index b id len → IsStore c b id len
-store_of c index b id len has = go (entry b c.buffers) refl has.store has.handle
+pub store_of : (reads : Bool) (c : CoreParts) (index b : ℕ) (id : HandleId) (len : ℕ) → HasBuffer reads c index b id len → IsStore c b id len
+store_of reads c index b id len has = go (entry b c.buffers) refl has.store has.handle
   where
     go : (v : Option BufferStore) → entry b c.buffers ≡ v → option_map outline (option_map stored_of v) ≡ Some (record { kind = kind.Buffer len; waiting = [] }) → IfSome (option_map stored_of v) (λ x. x.handle ≡ id.0) → IsStore c b id len
     go None is none handle = cc
@@ -82,17 +83,22 @@ pub hand_apart : (c : CoreParts) (id : HandleId) (o : Object) (x : Stored) → I
 hand_apart c id o x none at = ne_eqb id.0 x.handle (λ e. none o x at (sym e))
 
 -- nodes may touch a range of it
-pub buffer_free : (c : CoreParts) (hands : Hands) (s : Link) (index b : ℕ) (id : HandleId) (len at size : ℕ) → Holds (face c) hands s → HasBuffer c index b id len → IsStore c b id len → 0 < size → at + size ≤ len → IsFree (face c) hands s index id at size
-buffer_free c hands s index b id len at size h has of some inside =
+pub buffer_free : (reads : Bool) (c : CoreParts) (hands : Hands) (s : Link) (index b : ℕ) (id : HandleId) (len at size : ℕ) → Holds (face c) hands s → HasBuffer reads c index b id len → IsStore c b id len → 0 < size → at + size ≤ len → IsFree (face c) hands s id at size
+buffer_free reads c hands s index b id len at size h has of some inside =
     record {
       range = subst (λ k. HasRange k at size) (sym kind_is) (some, inside);
       end = let end : len ≤ the_end = has.end in omega (arith, inside, end);
       target = inr (Buffer b, stored_of of.store, store_at c b of.store of.is, of.handle);
-      parted = λ i ne. subst (λ j. nodes_touch ((face c).pending i) j ≡ false) of.handle (has.parted i (stored_of of.store) ne (store_at c b of.store of.is));
     }
   where
     kind_is : s.kinds id.0 ≡ Some (kind.Buffer len)
     kind_is = ap s.kinds (sym of.handle) ∙ (h.objects (Buffer b) (stored_of of.store) (store_at c b of.store of.is)).slot.kind ∙ ap (λ n. Some (kind.Buffer n)) of.size
+
+-- nothing that is pending in another context touches it, where nothing there conflicts with any use
+pub buffer_parted : (c : CoreParts) (index b : ℕ) (id : HandleId) (len i : ℕ) → HasBuffer false c index b id len → IsStore c b id len → i ≢ index → nodes_touch ((face c).pending i) id.0 ≡ false
+buffer_parted c index b id len i has of ne =
+    subst (λ j. nodes_touch ((face c).pending i) j ≡ false) of.handle
+    (untouched ((face c).pending i) (stored_of of.store) (has.parted i ne (stored_of of.store) (store_at c b of.store of.is)))
 
 -- What a call that ended early leaves
 
@@ -110,7 +116,7 @@ pub kept_then : (one two three : Entries BufferStore) → KeepsHandles one two �
 kept_then one two three first second b = second b ∙ first b
 
 pub owns_kept : (old new : Entries BufferStore) (s : Link) → KeepsHandles old new → Owns (objects_of old) s → Owns (objects_of new) s
-owns_kept old new s keeps owns = record { owner = owns.owner; each = each }
+owns_kept old new s keeps owns = record { owner = owns.owner; each = each; licensed = owns.licensed }
   where
     had : (b : ℕ) (x : BufferStore) → (v w : Option BufferStore) → entry b old ≡ w → v ≡ Some x → option_map (λ (x : BufferStore). x.handle) v ≡ option_map (λ (x : BufferStore). x.handle) w → (y : BufferStore) × (entry b old ≡ Some y) × (y.handle ≡ x.handle)
     had b x None w is bad same = cc

@@ -13,6 +13,7 @@ use Rattle.front_model.specs.Face.{Object, Buffer, Texture, Renderbuffer, Stored
 use Rattle.front_model.specs.Stands.{Store, no_hands, Holds, Owns, IsKnown, IsPastUse}
 use Rattle.front_model.proofs.Base.{put_at, put-other}
 use Rattle.front_model.proofs.LinkSteps.{own_or_not}
+use Rattle.front_model.proofs.Needs.{at_back_licensed}
 use Rattle.front_moves.specs.Buffers.{stored_of, objects_of, TakesOne}
 use Rattle.front_moves.specs.Core.{IsFlushed}
 use Rattle.front_moves.specs.Ending.{HasClosed, HasLetGo}
@@ -64,6 +65,7 @@ has_closed f s h pending stored = record {
   none_held = not_held;
   none_lost = λ id made. elim (h.none_lost id made) [ inl held ↦ absurd (false≢true (sym (not_held id) ∙ held)) | inr given ↦ given ];
   given = λ id index uses is. past id index (number_of uses index) (h.given id index uses is);
+  licensed = at_back_licensed f no_hands s h;
 }
   where
     not_held : (id : ℕ) → s.held id ≡ false

@@ -1,20 +1,22 @@
 -- Why batches are handed over, seen from before the contexts were flushed.
 use Rattle.vk_types.specs.Touches.{touches}
 use Rattle.std.proofs.Common.{◌≡◌, ◌≢◌, ℕ, ◌<◌, ◌≤◌, lit<, arith, Bool, true, false, List, [], ◌∷◌, length, refl, sym, ap, subst, ◌∙◌}
-use Rattle.std.specs.Prelude.{Option, Some, None, IfSome, IfNone, Contains}
+use Rattle.std.specs.Prelude.{Contains}
 use Rattle.std.proofs.lemmas.Bool.{false≢true}
 use Rattle.std.proofs.lemmas.List.Elements.{Contains-append_left, Contains-append_right}
 use Rattle.vk_types.specs.declared.batches.Batch.{Batch}
 use Rattle.vk_types.specs.declared.batches.Reason.{Reason}
 use Rattle.vk_types.specs.declared.batches.Reason.TheVariants as reason
 use Rattle.front_model.specs.Face.{Buffer, Stored, Face, nodes_touch}
-use Rattle.front_moves.specs.Reasons.{IsFlushOf, IsFlushOfSome, ReachesBuffer, IsTouching, IsCross, IsFull, IsParting, IsSettling, IsEnding, cross, full, parting, reading}
+use Rattle.front_moves.specs.Core.{IsReadTogether}
+use Rattle.front_moves.specs.Reasons.{IsFlushOf, IsFlushOfSome, ReachesBuffer, Conflicts, IsTouching, IsCross, IsFull, IsParting, IsSettling, IsEnding, cross, full, parting, reading}
 
-pub reaches_before : (f g : Face) (b : ℕ) (batch : Batch) → g.objects ≡ f.objects → ReachesBuffer g b batch → ReachesBuffer f b batch
-reaches_before f g b batch same reaches = record { stored = reaches.stored; is = ap (λ o. o (Buffer b)) (sym same) ∙ reaches.is; touches = reaches.touches }
+pub reaches_before : (f g : Face) (b : ℕ) (reads : Bool) (batch : Batch) → g.objects ≡ f.objects → ReachesBuffer g b reads batch → ReachesBuffer f b reads batch
+reaches_before f g b reads batch same reaches =
+    record { stored = reaches.stored; is = ap (λ o. o (Buffer b)) (sym same) ∙ reaches.is; touches = reaches.touches; conflicts = reaches.conflicts }
 
-pub cross_before : (f g : Face) (index b : ℕ) (batch : Batch) → g.objects ≡ f.objects → IsCross g index b batch → IsCross f index b batch
-cross_before f g index b batch same is = record { of_other = is.of_other; reaches = reaches_before f g b batch same is.reaches; for_reason = is.for_reason }
+pub cross_before : (f g : Face) (index b : ℕ) (reads : Bool) (batch : Batch) → g.objects ≡ f.objects → IsCross g index b reads batch → IsCross f index b reads batch
+cross_before f g index b reads batch same is = record { of_other = is.of_other; reaches = reaches_before f g b reads batch same is.reaches; for_reason = is.for_reason }
 
 -- what is flushed where something is pending
 pub flush_of_some : (f : Face) (index : ℕ) (why : Reason) → 0 < length (f.pending index) → (batch : Batch) → IsFlushOf f index why batch → IsFlushOfSome f index why batch
@@ -23,49 +25,49 @@ flush_of_some f index why more batch flush = record {
   some = λ none. let nothing : length (f.pending index) ≡ 0 = ap length (sym flush.all ∙ none) in omega (arith, nothing, more);
 }
 
--- what is flushed where a test says that it touches the buffer
-pub is_touching : (f : Face) (index b : ℕ) (why : Reason) (test : Bool) → IfSome (f.objects (Buffer b)) (λ x. nodes_touch (f.pending index) x.handle ≡ test) → IfNone (f.objects (Buffer b)) (test ≡ false) →
-    test ≡ true → (batch : Batch) → IsFlushOfSome f index why batch → IsTouching f index b why batch
-is_touching f index b why test some none told batch flush = go (f.objects (Buffer b)) refl some none
-  where
-    go : (o : Option Stored) → f.objects (Buffer b) ≡ o → IfSome o (λ x. nodes_touch (f.pending index) x.handle ≡ test) → IfNone o (test ≡ false) → IsTouching f index b why batch
-    go (Some x) is touch absent = record {
-      of_index = flush.flush.of_index;
-      reaches = record { stored = x; is = is; touches = ap (λ nodes. nodes_touch nodes x.handle) flush.flush.all ∙ touch ∙ told };
-      for_reason = flush.flush.for_reason;
-    }
-    go None is touch absent = absurd (false≢true (sym absent ∙ told))
+-- what is flushed where it conflicts with a use of the buffer
+pub is_touching : (f : Face) (index b : ℕ) (reads : Bool) (why : Reason) → Conflicts reads f index b → (batch : Batch) → IsFlushOfSome f index why batch → IsTouching f index b reads why batch
+is_touching f index b reads why k batch flush = record {
+  of_index = flush.flush.of_index;
+  reaches = record {
+    stored = k.stored;
+    is = k.is;
+    touches = ap (λ nodes. nodes_touch nodes k.stored.handle) flush.flush.all ∙ k.touches;
+    conflicts = λ alone together. k.conflicts alone (subst (λ nodes. IsReadTogether nodes k.stored) flush.flush.all together);
+  };
+  for_reason = flush.flush.for_reason;
+}
 
 -- what another index flushes, after others did
-pub is_cross : (f g : Face) (index other b : ℕ) → g.objects ≡ f.objects → other ≢ index → (batch : Batch) → IsTouching g other b reason.Cross batch → IsCross f index b batch
-is_cross f g index other b same ne batch is = record { of_other = λ e. ne (sym is.of_index ∙ e); reaches = reaches_before f g b batch same is.reaches; for_reason = is.for_reason }
+pub is_cross : (f g : Face) (index other b : ℕ) (reads : Bool) → g.objects ≡ f.objects → other ≢ index → (batch : Batch) → IsTouching g other b reads reason.Cross batch → IsCross f index b reads batch
+is_cross f g index other b reads same ne batch is = record { of_other = λ e. ne (sym is.of_index ∙ e); reaches = reaches_before f g b reads batch same is.reaches; for_reason = is.for_reason }
 
 -- what is flushed where so much is pending
 pub is_full : (f : Face) (index : ℕ) → 1024 ≤ length (f.pending index) → (batch : Batch) → IsFlushOfSome f index reason.Full batch → IsFull batch
 is_full f index many batch flush = record { full = subst (λ nodes. 1024 ≤ length nodes) (sym flush.flush.all) many; for_reason = flush.flush.for_reason }
 
-pub parts_one : (f : Face) (index b : ℕ) (batch : Batch) → IsCross f index b batch → IsParting f index (b ∷ []) batch
-parts_one f index b batch is = cross b (0, lit< tt, refl) is
+pub parts_one : (f : Face) (index b : ℕ) (reads : Bool) (batch : Batch) → IsCross f index b reads batch → IsParting f index ((b, reads) ∷ []) batch
+parts_one f index b reads batch is = cross b reads (0, lit< tt, refl) is
 
-pub parts_full : (f : Face) (index : ℕ) (buffers : List ℕ) (batch : Batch) → IsFull batch → IsParting f index buffers batch
-parts_full f index buffers batch is = full is
+pub parts_full : (f : Face) (index : ℕ) (used : List (ℕ × Bool)) (batch : Batch) → IsFull batch → IsParting f index used batch
+parts_full f index used batch is = full is
 
 -- the same of more buffers, before contexts were flushed
-pub parting_before : (f g : Face) (index : ℕ) (some all : List ℕ) → g.objects ≡ f.objects → ((b : ℕ) → Contains some b → Contains all b) → (batch : Batch) → IsParting g index some batch → IsParting f index all batch
-parting_before f g index some all same more batch (cross b listed is) = cross b (more b listed) (cross_before f g index b batch same is)
+pub parting_before : (f g : Face) (index : ℕ) (some all : List (ℕ × Bool)) → g.objects ≡ f.objects → ((u : ℕ × Bool) → Contains some u → Contains all u) → (batch : Batch) → IsParting g index some batch → IsParting f index all batch
+parting_before f g index some all same more batch (cross b reads listed is) = cross b reads (more (b, reads) listed) (cross_before f g index b reads batch same is)
 parting_before f g index some all same more batch (full is) = full is
 
-pub settles_parting : (f : Face) (index b : ℕ) (batch : Batch) → IsParting f index (b ∷ []) batch → IsSettling f index b batch
+pub settles_parting : (f : Face) (index b : ℕ) (batch : Batch) → IsParting f index ((b, false) ∷ []) batch → IsSettling f index b batch
 settles_parting f index b batch is = parting is
 
-pub settles_reading : (f g : Face) (index b : ℕ) (batch : Batch) → IsTouching g index b reason.Read batch → IsSettling f index b batch
-settles_reading f g index b batch is = reading is.of_index is.for_reason (λ none. false≢true (sym (ap (λ nodes. nodes_touch nodes is.reaches.stored.handle) none) ∙ is.reaches.touches))
+pub settles_reading : (f g : Face) (index b : ℕ) (reads : Bool) (batch : Batch) → IsTouching g index b reads reason.Read batch → IsSettling f index b batch
+settles_reading f g index b reads batch is = reading is.of_index is.for_reason (λ none. false≢true (sym (ap (λ nodes. nodes_touch nodes is.reaches.stored.handle) none) ∙ is.reaches.touches))
 
 -- of two buffers
-pub first_parts : (f : Face) (index a b : ℕ) (batch : Batch) → IsParting f index (a ∷ []) batch → IsParting f index (a ∷ b ∷ []) batch
+pub first_parts : (f : Face) (index : ℕ) (a b : ℕ × Bool) (batch : Batch) → IsParting f index (a ∷ []) batch → IsParting f index (a ∷ b ∷ []) batch
 first_parts f index a b = parting_before f f index (a ∷ []) (a ∷ b ∷ []) refl (Contains-append_left (a ∷ []) (b ∷ []))
 
-pub second_parts : (f g : Face) (index a b : ℕ) → g.objects ≡ f.objects → (batch : Batch) → IsParting g index (b ∷ []) batch → IsParting f index (a ∷ b ∷ []) batch
+pub second_parts : (f g : Face) (index : ℕ) (a b : ℕ × Bool) → g.objects ≡ f.objects → (batch : Batch) → IsParting g index (b ∷ []) batch → IsParting f index (a ∷ b ∷ []) batch
 second_parts f g index a b same = parting_before f g index (b ∷ []) (a ∷ b ∷ []) same (Contains-append_right (a ∷ []) (b ∷ []))
 
 pub ends : (f : Face) (index : ℕ) (batch : Batch) → IsFlushOfSome f index reason.End batch → IsEnding batch

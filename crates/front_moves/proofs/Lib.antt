@@ -18,3 +18,4 @@ pub mod Waiting
 pub mod Fencing
 pub mod Dues
 pub mod Accessing
+pub mod Sharing

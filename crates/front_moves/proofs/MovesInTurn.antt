@@ -9,7 +9,7 @@ use Rattle.back_core.specs.Link.{Link}
 use Rattle.front_model.specs.Face.{Object, Buffer, Face, put_object, outline_at, view, recorded, nodes_touch}
 use Rattle.front_model.specs.Stands.{Moved, IsQuiet}
 use Rattle.front_model.specs.Wanted.{with_bytes, with_copy}
-use Rattle.front_moves.specs.Core.{OnlyFlushed, IsParted, HasStore, HasFresh, IsQuietBut}
+use Rattle.front_moves.specs.Core.{HasStore, HasFresh, IsQuietBut}
 
 -- what is shown and quiet is as before
 abbrev pub IsSame : Face → Face → Link → Link → Type 0
@@ -25,16 +25,6 @@ same_then f g h s t u a b = record {
 
 pub store_kept : (f g : Face) (s t : Link) (b size : ℕ) → IsSame f g s t → HasStore f b size → HasStore g b size
 store_kept f g s t b size same has = ap (λ o. o (Buffer b)) same.outlines_are ∙ has
-
-pub parted_kept : (f g : Face) (index b : ℕ) → OnlyFlushed f g → IsParted f index b → IsParted g index b
-parted_kept f g index b flushed parted i x ne at = go (flushed.pending i)
-  where
-    was : nodes_touch (f.pending i) x.handle ≡ false
-    was = parted i x ne (ap (λ o. o (Buffer b)) (sym flushed.objects) ∙ at)
-
-    go : (g.pending i ≡ f.pending i) ⊎ (g.pending i ≡ []) → nodes_touch (g.pending i) x.handle ≡ false
-    go (inl e) = ap (λ nodes. nodes_touch nodes x.handle) e ∙ was
-    go (inr e) = ap (λ nodes. nodes_touch nodes x.handle) e
 
 -- a copy after what changes nothing
 pub copy_then : (f g h : Face) (s t u : Link) (src src_at dst dst_at size : ℕ) → IsSame f g s t →

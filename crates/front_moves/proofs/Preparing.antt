@@ -1,11 +1,12 @@
--- What it comes to that a context is flushed only where something that is pending in it touches a buffer.
-use Rattle.std.proofs.Common.{◌≡◌, ◌≢◌, not, nat_eq, ℕ, ◌+◌, ◌*◌, ◌<◌, ◌≤◌, Bool, true, false, [], length, refl, sym, ap, subst, ◌∙◌, arith, inl, inr}
-use Rattle.std.specs.Prelude.{◌⊎◌, Some, IfSome, nat_lt, Result, Ok, Err, OnOk}
+-- What it comes to that a context is flushed only where something that is pending in it conflicts with a use of a buffer.
+use Rattle.std.proofs.Common.{◌≡◌, ◌≢◌, not, nat_eq, ℕ, ◌+◌, ◌*◌, ◌<◌, ◌≤◌, Bool, true, false, List, [], length, refl, sym, ap, subst, ◌∙◌, arith, inl, inr}
+use Rattle.std.specs.Prelude.{◌⊎◌, Option, Some, None, IfSome, IfNone, nat_lt, Result, Ok, Err, OnOk}
 use Rattle.std.specs.Option.{option_map}
-use Rattle.std.proofs.lemmas.Bool.{cases_eq, cases_lt, cond-true, cond-false, eq-eqb, ne_eqb}
+use Rattle.std.proofs.lemmas.Bool.{false≢true, cases_eq, cases_lt, cond-true, cond-false, eq-eqb, ne_eqb}
 use Rattle.std.proofs.lemmas.Bool.Decides.{nat_tests}
 use Rattle.vk_types.specs.declared.stops.Stop.{Stop}
 use Rattle.vk_device.specs.Faults.{HasCause}
+use Rattle.vk_types.specs.declared.ops.Node.{Node}
 use Rattle.tables.specs.Table.{entry}
 use Rattle.resource_use.specs.Uses.{number_of}
 use Rattle.buffer_helper.specs.Buffers.{BufferStore}
@@ -14,12 +15,13 @@ use Rattle.submit_queue.specs.Histories.{last_number}
 use Rattle.back_core.specs.Own.{batches_of, last_use}
 use Rattle.back_core.specs.Link.{Link}
 use Rattle.back_core.specs.Needs.{IsOfGroup}
-use Rattle.front_model.specs.Face.{Buffer, Face, nodes_touch, outline_at, view}
+use Rattle.front_model.specs.Face.{Buffer, Stored, Face, nodes_touch, outline_at, view}
 use Rattle.front_model.specs.Stands.{no_hands, Holds, Moved, IsQuiet, use_of}
 use Rattle.front_model.proofs.Base.{put-same, put-other, put_at}
 use Rattle.front_model.proofs.LinkSteps.{own_or_not}
 use Rattle.front_moves.specs.Buffers.{stored_of}
-use Rattle.front_moves.specs.Core.{CoreParts, face, IsFlushed, OnlyFlushed, HasFlushedSome, IsApart, IsParted}
+use Rattle.front_moves.specs.Core.{CoreParts, face, IsFlushed, OnlyFlushed, HasFlushedSome, IsReadTogether, NoneConflicts, IsApart, IsParted}
+use Rattle.front_moves.specs.Reasons.{Conflicts, Decides}
 use Rattle.front_moves.proofs.Faces.{last_own}
 
 -- what is pending in an index touches a buffer where the buffer's last use there is past the last number
@@ -113,49 +115,76 @@ flushed_more f g h s t u first second = record {
     go i (inr p) (inl q) = inr (q ∙ p)
     go i one (inr q) = inr q
 
--- Nothing that is pending in an index touches the buffer
+-- What conflicts with a use of the buffer
 
-pub apart_flushed : (f g : Face) (index b : ℕ) → IsFlushed f g index → IsApart g index b
-apart_flushed f g index b one x at = ap (λ p. nodes_touch (p index) x.handle) one.pending ∙ ap (λ nodes. nodes_touch nodes x.handle) (put-same f.pending index [])
-
-pub apart_by_test : (f : Face) (index b : ℕ) (test : Bool) → IfSome (f.objects (Buffer b)) (λ x. nodes_touch (f.pending index) x.handle ≡ test) → test ≡ false → IsApart f index b
-apart_by_test f index b test is none x at = subst (λ o. IfSome o (λ y. nodes_touch (f.pending index) y.handle ≡ test)) at is ∙ none
-
-pub apart_more : (f g : Face) (i b : ℕ) → OnlyFlushed f g → IsApart f i b → IsApart g i b
-apart_more f g i b some apart x at = go (some.pending i)
+-- what touches the buffer conflicts with a use of it that may not stand beside
+pub conflicting : (reads : Bool) (f : Face) (index b : ℕ) (touched : Bool) → IfSome (f.objects (Buffer b)) (λ x. nodes_touch (f.pending index) x.handle ≡ touched) →
+    IfNone (f.objects (Buffer b)) (touched ≡ false) → touched ≡ true →
+    ((x : Stored) → f.objects (Buffer b) ≡ Some x → reads ≡ true → IsReadTogether (f.pending index) x → ⊥) → Conflicts reads f index b
+conflicting reads f index b touched some none told refutes = go (f.objects (Buffer b)) refl some none
   where
-    go : (g.pending i ≡ f.pending i) ⊎ (g.pending i ≡ []) → nodes_touch (g.pending i) x.handle ≡ false
-    go (inl same) = ap (λ nodes. nodes_touch nodes x.handle) same ∙ apart x (ap (λ o. o (Buffer b)) (sym some.objects) ∙ at)
-    go (inr none) = ap (λ nodes. nodes_touch nodes x.handle) none
+    go : (o : Option Stored) → f.objects (Buffer b) ≡ o → IfSome o (λ x. nodes_touch (f.pending index) x.handle ≡ touched) → IfNone o (touched ≡ false) → Conflicts reads f index b
+    go (Some x) is touch absent = record { stored = x; is = is; touches = touch ∙ told; conflicts = refutes x is }
+    go None is touch absent = absurd (false≢true (sym absent ∙ told))
+
+-- what a test says of the nodes beside a read
+abbrev pub SaysTogether : Bool → List Node → Stored → Type 0
+SaysTogether test nodes x = (test ≡ true → IsReadTogether nodes x) × (test ≡ false → IsReadTogether nodes x → ⊥)
+
+pub decides : (reads : Bool) (f : Face) (index b : ℕ) (touched : Bool) → IfSome (f.objects (Buffer b)) (λ x. nodes_touch (f.pending index) x.handle ≡ touched) →
+    IfNone (f.objects (Buffer b)) (touched ≡ false) → touched ≡ true → reads ≡ true → (together : Bool) → IfSome (f.objects (Buffer b)) (SaysTogether together (f.pending index)) →
+    Decides reads f index b (not together)
+decides reads f index b touched some none told alone true are = λ x at. inr (alone, (subst (λ o. IfSome o (SaysTogether true (f.pending index))) at are).0 refl)
+decides reads f index b touched some none told alone false are =
+    conflicting reads f index b touched some none told (λ x at also together. (subst (λ o. IfSome o (SaysTogether false (f.pending index))) at are).1 refl together)
+
+pub decides_apart : (reads : Bool) (f : Face) (index b : ℕ) (touched : Bool) → IfSome (f.objects (Buffer b)) (λ x. nodes_touch (f.pending index) x.handle ≡ touched) → touched ≡ false → IsApart reads f index b
+decides_apart reads f index b touched some none x at = inl (subst (λ o. IfSome o (λ y. nodes_touch (f.pending index) y.handle ≡ touched)) at some ∙ none)
+
+pub none_pending_apart : (reads : Bool) (f : Face) (index b : ℕ) → f.pending index ≡ [] → IsApart reads f index b
+none_pending_apart reads f index b none x at = inl (ap (λ nodes. nodes_touch nodes x.handle) none)
+
+pub decided : (reads : Bool) (f : Face) (index b : ℕ) (test told : Bool) → test ≡ told → Decides reads f index b test → Decides reads f index b told
+decided reads f index b test told is decides = subst (Decides reads f index b) is decides
+
+pub apart_flushed : (reads : Bool) (f g : Face) (index b : ℕ) → IsFlushed f g index → IsApart reads g index b
+apart_flushed reads f g index b one x at = inl (ap (λ p. nodes_touch (p index) x.handle) one.pending ∙ ap (λ nodes. nodes_touch nodes x.handle) (put-same f.pending index []))
+
+pub apart_more : (reads : Bool) (f g : Face) (i b : ℕ) → OnlyFlushed f g → IsApart reads f i b → IsApart reads g i b
+apart_more reads f g i b some apart x at = go (some.pending i)
+  where
+    go : (g.pending i ≡ f.pending i) ⊎ (g.pending i ≡ []) → NoneConflicts reads (g.pending i) x
+    go (inl same) = subst (λ nodes. NoneConflicts reads nodes x) (sym same) (apart x (ap (λ o. o (Buffer b)) (sym some.objects) ∙ at))
+    go (inr none) = inl (ap (λ nodes. nodes_touch nodes x.handle) none)
 
 -- the same of each index of the group below a place, but for one
-abbrev pub AreApart : Face → ℕ → ℕ → ℕ → Type 0
-AreApart f index b place = (i : ℕ) → IsOfGroup f.group i → i < 8 * f.group + place → i ≢ index → IsApart f i b
+abbrev pub AreApart : (reads : Bool) → Face → ℕ → ℕ → ℕ → Type 0
+AreApart reads f index b place = (i : ℕ) → IsOfGroup f.group i → i < 8 * f.group + place → i ≢ index → IsApart reads f i b
 
-pub none_apart : (f : Face) (index b : ℕ) → AreApart f index b 0
-none_apart f index b i own below ne = let low : 8 * f.group ≤ i = own.0 in absurd (omega arith)
+pub none_apart : (reads : Bool) (f : Face) (index b : ℕ) → AreApart reads f index b 0
+none_apart reads f index b i own below ne = let low : 8 * f.group ≤ i = own.0 in absurd (omega arith)
 
-pub apart_kept : (f g : Face) (index b place : ℕ) → OnlyFlushed f g → AreApart f index b place → AreApart g index b place
-apart_kept f g index b place some apart i own below ne =
-    apart_more f g i b some (apart i (subst (λ n. IsOfGroup n i) some.group own) (subst (λ n. i < 8 * n + place) some.group below) ne)
+pub apart_kept : (reads : Bool) (f g : Face) (index b place : ℕ) → OnlyFlushed f g → AreApart reads f index b place → AreApart reads g index b place
+apart_kept reads f g index b place some apart i own below ne =
+    apart_more reads f g i b some (apart i (subst (λ n. IsOfGroup n i) some.group own) (subst (λ n. i < 8 * n + place) some.group below) ne)
 
-pub apart_then : (f : Face) (index b place other : ℕ) → other ≡ 8 * f.group + place → AreApart f index b place → (other ≢ index → IsApart f other b) → AreApart f index b (place + 1)
-apart_then f index b place other at apart here i own below ne = elim (cases_lt i (8 * f.group + place)) [
+pub apart_then : (reads : Bool) (f : Face) (index b place other : ℕ) → other ≡ 8 * f.group + place → AreApart reads f index b place → (other ≢ index → IsApart reads f other b) → AreApart reads f index b (place + 1)
+apart_then reads f index b place other at apart here i own below ne = elim (cases_lt i (8 * f.group + place)) [
   | inl low ↦ apart i own low ne
   | inr high ↦
       let same : i ≡ other = omega arith in
-      subst (λ j. IsApart f j b) (sym same) (here (λ e. ne (same ∙ e)))
+      subst (λ j. IsApart reads f j b) (sym same) (here (λ e. ne (same ∙ e)))
 ]
 
-pub all_apart : (f : Face) (s : Link) (index b : ℕ) → Holds f no_hands s → AreApart f index b 8 → IsParted f index b
-all_apart f s index b h apart i x ne at = go (own_or_not f.group i)
+pub all_apart : (reads : Bool) (f : Face) (s : Link) (index b : ℕ) → Holds f no_hands s → AreApart reads f index b 8 → IsParted reads f index b
+all_apart reads f s index b h apart i ne = go (own_or_not f.group i)
   where
-    go : IsOfGroup f.group i ⊎ (IsOfGroup f.group i → ⊥) → nodes_touch (f.pending i) x.handle ≡ false
-    go (inl own) = apart i own own.1 ne x at
-    go (inr far) = ap (λ nodes. nodes_touch nodes x.handle) (h.of_group i far)
+    go : IsOfGroup f.group i ⊎ (IsOfGroup f.group i → ⊥) → IsApart reads f i b
+    go (inl own) = apart i own own.1 ne
+    go (inr far) = λ x at. inl (ap (λ nodes. nodes_touch nodes x.handle) (h.of_group i far))
 
-pub parted_more : (f g : Face) (index b : ℕ) → OnlyFlushed f g → IsParted f index b → IsParted g index b
-parted_more f g index b some parted i x ne at = apart_more f g i b some (λ y is. parted i y ne is) x at
+pub parted_more : (reads : Bool) (f g : Face) (index b : ℕ) → OnlyFlushed f g → IsParted reads f index b → IsParted reads g index b
+parted_more reads f g index b some parted i ne = apart_more reads f g i b some (parted i ne)
 
 pub same_by_test : (a b : ℕ) (test : Bool) → test ≡ not (nat_eq a b) → test ≡ false → a ≡ b
 same_by_test a b test is none = elim (cases_eq a b) [

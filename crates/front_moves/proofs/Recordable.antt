@@ -44,7 +44,7 @@ all_fence P id (Some barrier) is each =
     ∙ ap (λ (o : Option (Layout × Layout)). barrier_node (record { id = barrier.id; first = barrier.first; second = barrier.second; layouts = o })) (sym both.1) in
     All-cons P (barrier_node barrier) [] (subst P named (each barrier.first barrier.second)) (All-nil P)
 
-fence_touches : (id : HandleId) (due : Option Barrier) → IsFence id due → (h : ℕ) → nodes_touch (node_for due) h ≡ true → (id.0 == h) ≡ true
+pub fence_touches : (id : HandleId) (due : Option Barrier) → IsFence id due → (h : ℕ) → nodes_touch (node_for due) h ≡ true → (id.0 == h) ≡ true
 fence_touches id None is h e = absurd (false≢true e)
 fence_touches id (Some barrier) is h e = ap (λ (i : HandleId). i.0 == h) (sym (is barrier refl).0) ∙ go (barrier.id.0 == h) e
   where
@@ -129,12 +129,11 @@ barrier_not_empty id first second = All-cons (λ (t : Touch). t.start < t.end) (
 barrier_recordable : (id : HandleId) (first second : Access) → IsRecordable (plain_barrier id first second)
 barrier_recordable id first second = record { plain = tt; some = barrier_not_empty id first second }
 
--- A range of a buffer that nodes may touch, since nothing that is pending in another context does
-pub record IsFree (f : Face) (hands : Hands) (s : Link) (index : ℕ) (id : HandleId) (at size : ℕ) : Type 0 where
+-- a range of a buffer that nodes may touch
+pub record IsFree (f : Face) (hands : Hands) (s : Link) (id : HandleId) (at size : ℕ) : Type 0 where
   pub range : HasRange (s.kinds id.0) at size
   pub end : at + size ≤ the_end
   pub target : IsTarget f hands id.0
-  pub parted : (i : ℕ) → i ≢ index → nodes_touch (f.pending i) id.0 ≡ false
 
 copy_not_empty : (src : HandleId) (src_at : ℕ) (dst : HandleId) (dst_at size : ℕ) → 0 < size → src_at + size ≤ the_end → dst_at + size ≤ the_end → NoneEmpty (copy_node src src_at dst dst_at size)
 copy_not_empty src src_at dst dst_at size some src_end dst_end =
@@ -143,18 +142,33 @@ copy_not_empty src src_at dst dst_at size some src_end dst_end =
     All-cons (λ (t : Touch). t.start < t.end) (part src src_at size transfer_read) (part dst dst_at size transfer_write ∷ []) first
     (All-cons (λ (t : Touch). t.start < t.end) (part dst dst_at size transfer_write) [] second (All-nil (λ (t : Touch). t.start < t.end)))
 
+-- what holds of both objects holds of each that is touched
+touched_by : (one other : Option Barrier) (src : HandleId) (src_at : ℕ) (dst : HandleId) (dst_at size : ℕ) → IsFence src one → IsFence dst other →
+    (P : ℕ → Type 0) (id : ℕ) → P src.0 → P dst.0 → nodes_touch (behind_both one other (copy_node src src_at dst dst_at size)) id ≡ true → P id
+touched_by one other src src_at dst dst_at size a b P id x y touch = elim (or_cases (src.0 == id) (dst.0 == id) (sym (copy_touches one other src src_at dst dst_at size id a b) ∙ touch)) [
+  | inl e ↦ subst P (eqb-true src.0 id e) x
+  | inr e ↦ subst P (eqb-true dst.0 id e) y
+]
+
+-- nodes that touch neither object do not conflict with the copy and the barriers before it
+pub copy_where : (one other : Option Barrier) (src : HandleId) (src_at : ℕ) (dst : HandleId) (dst_at size : ℕ) (nodes : List Node) → IsFence src one → IsFence dst other →
+    nodes_touch nodes src.0 ≡ false → nodes_touch nodes dst.0 ≡ false → NoConflict (behind_both one other (copy_node src src_at dst dst_at size)) nodes
+copy_where one other src src_at dst dst_at size nodes a b from to =
+    apart_where (behind_both one other (copy_node src src_at dst dst_at size)) nodes (λ id touch. touched_by one other src src_at dst dst_at size a b (λ j. nodes_touch nodes j ≡ false) id from to touch)
+
 pub copy_may : (f : Face) (hands : Hands) (s : Link) (index : ℕ) (one other : Option Barrier) (src : HandleId) (src_at : ℕ) (dst : HandleId) (dst_at size : ℕ) → IsOfGroup f.group index → length (f.pending index) < 1024 →
     IsOrdered f s (behind_both one other (copy_node src src_at dst dst_at size)) → IsFence src one → IsFence dst other → 0 < size →
-    IsFree f hands s index src src_at size → IsFree f hands s index dst dst_at size → (src.0 ≡ dst.0 → (src_at + size ≤ dst_at) ⊎ (dst_at + size ≤ src_at)) →
+    IsFree f hands s src src_at size → IsFree f hands s dst dst_at size →
+    ((i : ℕ) → i ≢ index → NoConflict (behind_both one other (copy_node src src_at dst dst_at size)) (f.pending i)) → (src.0 ≡ dst.0 → (src_at + size ≤ dst_at) ⊎ (dst_at + size ≤ src_at)) →
     MayRecord f hands s index (behind_both one other (copy_node src src_at dst dst_at size))
-copy_may f hands s index one other src src_at dst dst_at size own few ordered a b some from to apart = record {
+copy_may f hands s index one other src src_at dst dst_at size own few ordered a b some from to parted apart = record {
   of_group = own;
   ordered = ordered;
   recordable = all_behind IsRecordable one other src dst copy a b (barrier_recordable src) (barrier_recordable dst) (record { plain = tt; some = not_empty });
   fits = all_behind (NodeFits s.kinds) one other src dst copy a b (λ first second. layouts_fit (s.kinds src.0) src_at size from.range) (λ first second. layouts_fit (s.kinds dst.0) dst_at size to.range) (from.range, to.range, apart);
   none_empty = all_behind NoneEmpty one other src dst copy a b (barrier_not_empty src) (barrier_not_empty dst) not_empty;
   few = let most : length (behind_both one other (copy_node src src_at dst dst_at size)) ≤ 3 = at_most_three one other (copy_node src src_at dst dst_at size) in omega (arith, few, most);
-  apart = λ i ne. apart_where (behind_both one other copy) (f.pending i) (λ id touch. by (λ j. nodes_touch (f.pending i) j ≡ false) id (from.parted i ne) (to.parted i ne) touch);
+  apart = parted;
   targets = λ id touch. by (IsTarget f hands) id from.target to.target touch;
 }
   where
@@ -165,10 +179,7 @@ copy_may f hands s index one other src src_at dst dst_at size own few ordered a 
     not_empty = copy_not_empty src src_at dst dst_at size some from.end to.end
 
     by : (P : ℕ → Type 0) (id : ℕ) → P src.0 → P dst.0 → nodes_touch (behind_both one other (copy_node src src_at dst dst_at size)) id ≡ true → P id
-    by P id x y touch = elim (or_cases (src.0 == id) (dst.0 == id) (sym (copy_touches one other src src_at dst dst_at size id a b) ∙ touch)) [
-      | inl e ↦ subst P (eqb-true src.0 id e) x
-      | inr e ↦ subst P (eqb-true dst.0 id e) y
-    ]
+    by P id = touched_by one other src src_at dst dst_at size a b P id
 
 -- A barrier alone
 

@@ -12,6 +12,7 @@ use Rattle.back_core.specs.Link.{Link}
 use Rattle.front_model.specs.Face.{Object, Buffer, Stored, Outline, Part, part_of, Face, outline, outline_at, view, nodes_touch}
 use Rattle.front_model.specs.Stands.{Moved, IsQuiet}
 use Rattle.front_model.proofs.Base.{put_at, put-other, cases_object}
+use Rattle.front_moves.proofs.Sharing.{untouched}
 use Rattle.front_moves.specs.Core.{OnlyFlushed, IsApart, IsParted, IsUntouched, IsOpen, HasStore, IsQuietBut}
 
 -- what is shown and quiet is as before
@@ -19,18 +20,18 @@ abbrev pub KeepsAll : Face → Face → Link → Link → Type 0
 KeepsAll f g s t = Moved g t (view f s) (outline_at f) (IsQuiet f s)
 
 -- the index was flushed where it touched the buffer, and nothing else that is pending touched that
-pub untouched_after : (f g : Face) (index b : ℕ) → OnlyFlushed f g → IsApart g index b → IsParted f index b → IsUntouched g b
+pub untouched_after : (f g : Face) (index b : ℕ) → OnlyFlushed f g → IsApart false g index b → IsParted false f index b → IsUntouched g b
 untouched_after f g index b flushed apart parted i x is = go (cases_eq i index)
   where
     was : f.objects (Buffer b) ≡ Some x
     was = ap (λ o. o (Buffer b)) (sym flushed.objects) ∙ is
 
     kept : i ≢ index → (g.pending i ≡ f.pending i) ⊎ (g.pending i ≡ []) → nodes_touch (g.pending i) x.handle ≡ false
-    kept other (inl same) = ap (λ nodes. nodes_touch nodes x.handle) same ∙ parted i x other was
+    kept other (inl same) = ap (λ nodes. nodes_touch nodes x.handle) same ∙ untouched (f.pending i) x (parted i other x was)
     kept other (inr none) = ap (λ nodes. nodes_touch nodes x.handle) none
 
     go : (i ≡ index) ⊎ (i ≢ index) → nodes_touch (g.pending i) x.handle ≡ false
-    go (inl same) = ap (λ j. nodes_touch (g.pending j) x.handle) same ∙ apart x is
+    go (inl same) = ap (λ j. nodes_touch (g.pending j) x.handle) same ∙ untouched (g.pending index) x (apart x is)
     go (inr other) = kept other (flushed.pending i)
 
 -- what is told of the buffer's tracker is told still

@@ -38,13 +38,11 @@ pub hand_at : (id len : ℕ) → in_hand id len id ≡ Some (fresh_slot id (kind
 hand_at id len = put-same no_hands id (Some (fresh_slot id (kind.Buffer len)))
 
 -- nodes may touch the whole of it
-pub hand_free : (f : Face) (s : Link) (index : ℕ) (id : HandleId) (len : ℕ) → s.kinds id.0 ≡ Some (kind.Buffer len) → ((i : ℕ) → nodes_touch (f.pending i) id.0 ≡ false) → 0 < len → len ≤ the_end →
-    IsFree f (in_hand id.0 len) s index id 0 len
-hand_free f s index id len is untouched some end = record {
+pub hand_free : (f : Face) (s : Link) (id : HandleId) (len : ℕ) → s.kinds id.0 ≡ Some (kind.Buffer len) → 0 < len → len ≤ the_end → IsFree f (in_hand id.0 len) s id 0 len
+hand_free f s id len is some end = record {
   range = subst (λ k. HasRange k 0 len) (sym is) (some, let whole : 0 + len ≤ len = omega arith in whole);
   end = omega (arith, end);
   target = inl (is_some_of (in_hand id.0 len id.0) (fresh_slot id.0 (kind.Buffer len)) (hand_at id.0 len));
-  parted = λ i ne. untouched i;
 }
 
 -- the front after the copy

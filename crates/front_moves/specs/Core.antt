@@ -1,14 +1,18 @@
 -- The front without its history, as a record of plain values.
-use Rattle.std.specs.Prelude.{◌≡◌, ◌≢◌, ℕ, ◌-◌, ◌≤◌, ◌*◌, ◌⊎◌, false, if◌then◌else◌, Option, Some, None, List, [], ◌∷◌, ◌++◌, slice_index_or}
+use Rattle.std.specs.Prelude.{◌≡◌, ◌≢◌, ℕ, ◌-◌, ◌≤◌, ◌*◌, ◌⊎◌, Bool, true, false, if◌then◌else◌, Option, Some, None, List, [], ◌∷◌, ◌++◌, slice_index_or}
 use Rattle.std.specs.Option.{option_map}
 use Rattle.cells.specs.Contents.{UNDEFINED, cell_at, in_range}
 use Rattle.vk_types.specs.declared.handles.Kind.TheVariants as kind
 use Rattle.vk_types.specs.declared.ops.Node.{Node}
+use Rattle.vk_types.specs.declared.regions.Touch.{Touch}
+use Rattle.vk_types.specs.Accesses.{transfer_read}
+use Rattle.vk_types.specs.Touches.{whole}
 use Rattle.tables.specs.Table.{Entries}
 use Rattle.queue_serials.specs.Indexes.{IndexTable, last_of}
 use Rattle.buffer_helper.specs.Buffers.{BufferStore}
 use Rattle.vk_model.specs.Log.{commands}
 use Rattle.barriers.specs.Trackers.{due_by}
+use Rattle.barriers.specs.Recording.{handle}
 use Rattle.back_core.specs.Own.{log_of, last_use}
 use Rattle.back_core.specs.Link.{Link, put}
 use Rattle.front_model.specs.Face.{Object, Buffer, Stored, Outline, Face, outline_at, nodes_touch, recorded, view}
@@ -16,6 +20,7 @@ use Rattle.front_model.specs.Stands.{Hands, no_hands, Holds, Moved, IsQuiet, hos
 use Rattle.front_model.specs.Steps.{fresh_slot}
 use Rattle.front_model.specs.Wanted.{buffer_kind}
 use Rattle.front_moves.specs.Buffers.{objects_of}
+use Rattle.front_moves.specs.Fences.{has_barrier}
 
 -- the eight indexes of the group with their last numbers, what is pending in each, and the buffers that have a store
 pub record CoreParts : Type 0 where
@@ -40,6 +45,10 @@ face c = record {
   objects = objects_of c.buffers;
 }
 
+-- what a copy touches of an object that it reads
+abbrev pub read_touch : ℕ → Touch
+read_touch id = whole (handle id) transfer_read None
+
 -- nothing is pending in an index any more, and what is pending in others and the objects are as before
 pub record IsFlushed (old new : Face) (index : ℕ) : Type 0 where
   pub pending : new.pending ≡ put old.pending index []
@@ -58,13 +67,22 @@ pub record OnlyFlushed (old new : Face) : Type 0 where
   pub objects : new.objects ≡ old.objects
   pub group : new.group ≡ old.group
 
--- nothing that is pending in an index touches the buffer
-abbrev pub IsApart : Face → ℕ → ℕ → Type 0
-IsApart f index b = (x : Stored) → f.objects (Buffer b) ≡ Some x → nodes_touch (f.pending index) x.handle ≡ false
+-- By its tracker no barrier is due before a copy reads the object, and none of it is among the nodes: so those that touch it read it too.
+pub record IsReadTogether (nodes : List Node) (x : Stored) : Type 0 where
+  pub due : due_by x.slot.tracker (read_touch x.handle) ≡ None
+  pub none : has_barrier nodes x.handle ≡ false
 
--- nothing that is pending in another context touches the buffer, so that this one may record a node on it
-abbrev pub IsParted : Face → ℕ → ℕ → Type 0
-IsParted f index b = (i : ℕ) (x : Stored) → i ≢ index → f.objects (Buffer b) ≡ Some x → nodes_touch (f.pending i) x.handle ≡ false
+-- the nodes do not conflict with a use of the object, which may be known to read alone
+abbrev pub NoneConflicts : (reads : Bool) → List Node → Stored → Type 0
+NoneConflicts reads nodes x = (nodes_touch nodes x.handle ≡ false) ⊎ ((reads ≡ true) × IsReadTogether nodes x)
+
+-- nothing that is pending in an index conflicts with a use of the buffer
+abbrev pub IsApart : (reads : Bool) → Face → ℕ → ℕ → Type 0
+IsApart reads f index b = (x : Stored) → f.objects (Buffer b) ≡ Some x → NoneConflicts reads (f.pending index) x
+
+-- nothing that is pending in another context conflicts with a use of the buffer, so that this one may record a node on it
+abbrev pub IsParted : (reads : Bool) → Face → ℕ → ℕ → Type 0
+IsParted reads f index b = (i : ℕ) → i ≢ index → IsApart reads f i b
 
 -- Some contexts were flushed: what is shown and quiet is as before.
 pub record HasFlushedSome (old new : Face) (before now : Link) : Type 0 where

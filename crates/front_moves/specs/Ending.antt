@@ -10,7 +10,7 @@ use Rattle.submit_queue.specs.Histories.{last_number}
 use Rattle.back_core.specs.Own.{batches_of}
 use Rattle.back_core.specs.Link.{Link}
 use Rattle.front_model.specs.Face.{Object, Buffer, Texture, Renderbuffer, Face, outline_at, view}
-use Rattle.front_model.specs.Stands.{Holds, no_hands, IsQuiet}
+use Rattle.front_model.specs.Stands.{Holds, no_hands, IsQuiet, BarriersAreLicensed}
 
 -- the object is one of these buffers
 abbrev pub is_ended : List ℕ → Object → Bool
@@ -26,13 +26,14 @@ pub record HasEnded (f g : Face) (s t : Link) (ended : List ℕ) : Type 0 where
   pub still : (o : Object) → is_ended ended o ≡ false → IsQuiet f s o → IsQuiet g t o
   pub group : g.group ≡ f.group
 
--- Nothing is pending, no object has a store, the group holds nothing, and no batch to come uses what it gave.
+-- Nothing is pending, no object has a store, the group holds nothing, no batch to come uses what it gave, and each barrier was licensed.
 pub record HasClosed (f : Face) (s : Link) : Type 0 where
   pub none_pending : (index : ℕ) → f.pending index ≡ []
   pub none_stored : (o : Object) → f.objects o ≡ None
   pub none_held : (id : ℕ) → s.held id ≡ false
   pub none_lost : (id : ℕ) → IsSome (s.kinds id) → IsSome (s.given id)
   pub given : (id index : ℕ) (uses : List QueueSerial) → s.given id ≡ Some uses → number_of uses index ≤ last_number (batches_of s.mine) index
+  pub licensed : BarriersAreLicensed s
 
 -- Of these buffers some are left: their stores are held still, and those of the others were let go.
 pub record HasLetGo (buffers left : Entries BufferStore) (s t : Link) : Type 0 where

@@ -3,3 +3,4 @@ pub mod Core
 pub mod Ending
 pub mod Recording
 pub mod Reasons
+pub mod Fences

@@ -24,12 +24,12 @@ pub record IsNextSerial (c : CoreParts) (place : ℕ) (serial : QueueSerial) : T
   pub next : serial.number ≡ (face c).last serial.index + 1
   pub few : length ((face c).pending serial.index) < 1024
 
--- the store of a buffer is this object of so many bytes, and nothing that is pending in another context touches it
-pub record HasBuffer (c : CoreParts) (index b : ℕ) (id : HandleId) (len : ℕ) : Type 0 where
+-- the store of a buffer is this object of so many bytes, and nothing that is pending in another context conflicts with a use of it
+pub record HasBuffer (reads : Bool) (c : CoreParts) (index b : ℕ) (id : HandleId) (len : ℕ) : Type 0 where
   pub handle : IfSome ((face c).objects (Buffer b)) (λ x. x.handle ≡ id.0)
   pub store : HasStore (face c) b len
   pub end : len ≤ the_end
-  pub parted : IsParted (face c) index b
+  pub parted : IsParted reads (face c) index b
 
 -- nodes were added at a place, and the stores of the buffers that pass a test noted their use
 pub record IsRecorded (c d : CoreParts) (place : ℕ) (nodes : List Node) (serial : QueueSerial) (touched : ℕ → Bool) : Type 0 where

@@ -8,9 +8,9 @@ ghost use Rattle.back_core.specs.Link.{Link, IsNew, put, enqueued};
 ghost use Rattle.back_core.specs.Needs.{IsOfGroup};
 ghost use Rattle.front_model.specs.Face.{Buffer, outline_at, view, nodes_touch};
 ghost use Rattle.front_model.specs.Stands.{Holds, Owns, Moved, IsQuiet, no_hands};
-ghost use Rattle.front_moves.specs.Core.{face, IsFlushed, OnlyFlushed, HasFlushedSome, IsApart, IsParted};
+ghost use Rattle.front_moves.specs.Core.{face, IsFlushed, OnlyFlushed, HasFlushedSome, IsReadTogether, IsApart, IsParted};
 ghost use Rattle.back_core.specs.Frame.{ActsAtBack};
-ghost use Rattle.front_moves.specs.Reasons.{IsFlushOf, IsFlushOfSome, IsTouching, IsCross, IsParting};
+ghost use Rattle.front_moves.specs.Reasons.{IsFlushOf, IsFlushOfSome, Decides, IsTouching, IsCross, IsParting};
 
 use crate::buffers::Buffers;
 use crate::comes_to::{flush_comes_to, new_comes_to};
@@ -19,7 +19,7 @@ use back_core::BackLink;
 use queue_serials::Indexes;
 use std::alloc::Global;
 use std::marker::Model;
-use vk_types::{Batch, Nodes, QueueSerial, Reason, SerialIndex, SignalNumbers, Stop};
+use vk_types::{Access, Batch, Nodes, QueueSerial, Reason, SerialIndex, SignalNumbers, Stop};
 
 /// How many nodes may be pending in a context before they are handed to the back.
 pub(crate) const MOST_PENDING: usize = 1024;
@@ -164,7 +164,7 @@ impl Core {
             queue: 0,
             waits: SignalNumbers::of(Vec::new(self.alloc)),
             signals: SignalNumbers::of(Vec::new(self.alloc)),
-            nodes: Nodes::of(self.pending.take(self.alloc, place)),
+            nodes: Nodes::of(self.pending.take(place)),
             reason,
         };
         match link.enqueue(batch) {
@@ -186,48 +186,93 @@ impl Core {
         }
     }
 
-    /// Flushes a context where something that is pending in it touches a buffer.
+    /// Whether a copy may read a buffer beside what is pending in a context: no barrier is due before that, and there is none of the buffer
+    /// among what is pending.
+    fn is_read_together(&self, index: SerialIndex, buffer: u32) -> bool
+        requires group { IsOfGroup (face self.now).group index }
+        ensures { IfSome ((face self.now).objects (Buffer buffer)) (λ x.
+            (result ≡ true → IsReadTogether ((face self.now).pending index) x) × (result ≡ false → IsReadTogether ((face self.now).pending index) x → ⊥)) }
+    {
+        match self.buffers.get(buffer) {
+            Some(store) => {
+                if store.due(Access::TRANSFER_READ).is_some() {
+                    return false;
+                }
+                !self.pending.has_barrier(self.place(index), store.id())
+            }
+            None => false,
+        }
+    }
+
+    /// Whether something that is pending in a context conflicts with a use of a buffer, which may be known to read alone.
+    fn conflicts(&self, index: SerialIndex, buffer: u32, reads: bool) -> bool
+        requires group { IsOfGroup (face self.now).group index }
+        ensures { (s : Link) → Holds (face self.now) no_hands s → Decides reads (face self.now) index buffer result }
+    {
+        if self.has_pending(index) {
+            return self.pending_conflicts(index, buffer, reads);
+        }
+        false
+    }
+
+    /// The same, by the last uses and the tracker of the buffer.
+    fn pending_conflicts(&self, index: SerialIndex, buffer: u32, reads: bool) -> bool
+        requires group { IsOfGroup (face self.now).group index }
+        ensures { (s : Link) → Holds (face self.now) no_hands s → Decides reads (face self.now) index buffer result }
+    {
+        if self.is_touched(index, buffer) {
+            if reads {
+                return !self.is_read_together(index, buffer);
+            }
+            return true;
+        }
+        false
+    }
+
+    /// Flushes a context where something that is pending in it conflicts with a use of a buffer, which may be known to read alone.
     pub(crate) fn part<L: BackLink>(
         &mut self,
         link: &mut L,
         index: SerialIndex,
         buffer: u32,
+        reads: bool,
         reason: Reason,
     ) -> Result<(), Stop>
         requires holds { Holds (face self.old) no_hands (L.state link.old) }
         requires group { IsOfGroup (face self.old).group index }
         ensures some { OnOk result (HasFlushedSome (face self.old) (face self.new) (L.state link.old) (L.state link.new)) }
-        ensures apart { OnOk result (IsApart (face self.new) index buffer) }
+        ensures apart { OnOk result (IsApart reads (face self.new) index buffer) }
         ensures group { (face self.new).group ≡ (face self.old).group }
         ensures err { OnErr result (Owns (face self.new).objects (L.state link.new)) }
         ensures cause { HasCause (L.faults link.old) (L.faults link.new) result }
-        ensures at_back { ActsAtBack L.state L.told link.old link.new 0 false (is_err result) (IsTouching (face self.old) index buffer reason) }
+        ensures at_back { ActsAtBack L.state L.told link.old link.new 0 false (is_err result) (IsTouching (face self.old) index buffer reads reason) }
     {
-        if self.is_touched(index, buffer) {
+        if self.conflicts(index, buffer, reads) {
             return self.flush(link, index, reason);
         }
         Ok(())
     }
 
-    /// Flushes each other context in which something that touches a buffer is pending.
+    /// Flushes each other context in which something is pending that conflicts with a use of a buffer, which may be known to read alone.
     fn part_others<L: BackLink>(
         &mut self,
         link: &mut L,
         index: SerialIndex,
         buffer: u32,
+        reads: bool,
     ) -> Result<(), Stop>
         requires holds { Holds (face self.old) no_hands (L.state link.old) }
         ensures some { OnOk result (HasFlushedSome (face self.old) (face self.new) (L.state link.old) (L.state link.new)) }
-        ensures parted { OnOk result (IsParted (face self.new) index buffer) }
+        ensures parted { OnOk result (IsParted reads (face self.new) index buffer) }
         ensures group { (face self.new).group ≡ (face self.old).group }
         ensures err { OnErr result (Owns (face self.new).objects (L.state link.new)) }
         ensures cause { HasCause (L.faults link.old) (L.faults link.new) result }
-        ensures at_back { ActsAtBack L.state L.told link.old link.new 0 false (is_err result) (IsCross (face self.old) index buffer) }
+        ensures at_back { ActsAtBack L.state L.told link.old link.new 0 false (is_err result) (IsCross (face self.old) index buffer reads) }
     {
         for place in 0..8u8 {
             let other = SerialIndex::new(8 * self.group + place);
             if other != index {
-                match self.part(link, other, buffer, Reason::Cross) {
+                match self.part(link, other, buffer, reads, Reason::Cross) {
                     Ok(()) => {}
                     Err(stop) => return Err(stop),
                 }
@@ -236,25 +281,27 @@ impl Core {
         Ok(())
     }
 
-    /// Flushes each other context in which something that touches a buffer is pending, and this one where it is full.
+    /// Flushes each other context in which something is pending that conflicts with a use of a buffer, which may be known to read alone,
+    /// and this one where it is full.
     pub(crate) fn prepare<L: BackLink>(
         &mut self,
         link: &mut L,
         index: SerialIndex,
         buffer: u32,
+        reads: bool,
     ) -> Result<(), Stop>
         requires holds { Holds (face self.old) no_hands (L.state link.old) }
         requires group { IsOfGroup (face self.old).group index }
         ensures moved { OnOk result (Moved (face self.new) (L.state link.new) (view (face self.old) (L.state link.old)) (outline_at (face self.old)) (IsQuiet (face self.old) (L.state link.old))) }
         ensures flushed { OnOk result (OnlyFlushed (face self.old) (face self.new)) }
-        ensures parted { OnOk result (IsParted (face self.new) index buffer) }
+        ensures parted { OnOk result (IsParted reads (face self.new) index buffer) }
         ensures few { OnOk result (length ((face self.new).pending index) < 1024) }
         ensures group { (face self.new).group ≡ (face self.old).group }
         ensures err { OnErr result (Owns (face self.new).objects (L.state link.new)) }
         ensures cause { HasCause (L.faults link.old) (L.faults link.new) result }
-        ensures at_back { ActsAtBack L.state L.told link.old link.new 0 false (is_err result) (IsParting (face self.old) index (buffer ∷ [])) }
+        ensures at_back { ActsAtBack L.state L.told link.old link.new 0 false (is_err result) (IsParting (face self.old) index ((buffer, reads) ∷ [])) }
     {
-        match self.part_others(link, index, buffer) {
+        match self.part_others(link, index, buffer, reads) {
             Ok(()) => {}
             Err(stop) => return Err(stop),
         }

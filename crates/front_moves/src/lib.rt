@@ -1,5 +1,5 @@
 //! The moves of which the calls of a share group are made: each keeps the front standing, and changes what its objects hold as
-//! its contract says. So far an object is a buffer, and each node that is recorded has barriers on both sides.
+//! its contract says. So far an object is a buffer, and each node that is recorded stands behind the barriers that are due before it.
 #![tactic(auto)]
 
 mod buffers;

@@ -1,5 +1,5 @@
 // The moves on the buffers of a share group.
-ghost use Rattle.std.specs.Prelude.{◌≡◌, ◌≢◌, ℕ, ◌+◌, ◌<◌, ◌≤◌, ◌⊎◌, true, false, Some, None, IsSome, [], ◌∷◌, length, OnOk, OnErr, is_err};
+ghost use Rattle.std.specs.Prelude.{◌≡◌, ◌≢◌, ℕ, ◌+◌, ◌<◌, ◌≤◌, ◌⊎◌, ◌==◌, not, true, false, Some, None, IsSome, [], ◌∷◌, length, OnOk, OnErr, is_err};
 ghost use Rattle.cells.specs.Contents.{cells, Agrees};
 ghost use Rattle.tables.specs.Table.{entry};
 ghost use Rattle.vk_device.specs.Faults.{HasCause};
@@ -38,9 +38,9 @@ impl Core {
         ensures group { (face self.new).group ≡ (face self.old).group }
         ensures err { OnErr result (Owns (face self.new).objects (L.state link.new)) }
         ensures cause { HasCause (L.faults link.old) (L.faults link.new) result }
-        ensures at_back { ActsAtBack L.state L.told link.old link.new (length bytes.now) false (is_err result) (IsParting (face self.old) index (buffer ∷ [])) }
+        ensures at_back { ActsAtBack L.state L.told link.old link.new (length bytes.now) false (is_err result) (IsParting (face self.old) index ((buffer, false) ∷ [])) }
     {
-        match self.prepare(link, index, buffer) {
+        match self.prepare(link, index, buffer, false) {
             Ok(()) => {
                 let number = self.next_serial(link, index).number;
                 let len = bytes.len() as u64;
@@ -84,10 +84,11 @@ impl Core {
         ensures group { (face self.new).group ≡ (face self.old).group }
         ensures err { OnErr result (Owns (face self.new).objects (L.state link.new)) }
         ensures cause { HasCause (L.faults link.old) (L.faults link.new) result }
-        ensures at_back { ActsAtBack L.state L.told link.old link.new 0 false (is_err result) (IsParting (face self.old) index (src ∷ dst ∷ [])) }
+        ensures at_back { ActsAtBack L.state L.told link.old link.new 0 false (is_err result) (IsParting (face self.old) index ((src, not (src == dst)) ∷ (dst, false) ∷ [])) }
     {
-        match self.prepare(link, index, src) {
-            Ok(()) => match self.prepare(link, index, dst) {
+        let reads = src != dst;
+        match self.prepare(link, index, src, reads) {
+            Ok(()) => match self.prepare(link, index, dst, false) {
                 Ok(()) => {
                     let serial = self.next_serial(link, index);
                     self.record_copy(link, serial, src, src_at, dst, dst_at, size)
@@ -189,11 +190,11 @@ impl Core {
         ensures at_back { ActsAtBack L.state L.told link.old link.new 0 true (is_err result) (IsSettling (face self.old) index buffer) }
     {
         settle_comes_to();
-        match self.prepare(link, index, buffer) {
+        match self.prepare(link, index, buffer, false) {
             Ok(()) => {
                 let serial = self.next_serial(link, index);
                 match self.record_opening(link, serial, buffer) {
-                    Ok(()) => match self.part(link, index, buffer, Reason::Read) {
+                    Ok(()) => match self.part(link, index, buffer, false, Reason::Read) {
                         Ok(()) => self.wait_for_uses(link, buffer),
                         Err(stop) => Err(stop),
                     },

@@ -1,5 +1,5 @@
 // How nodes on buffers are recorded, each behind the barriers that are due before it.
-ghost use Rattle.std.specs.Prelude.{◌≡◌, ℕ, ◌+◌, ◌<◌, ◌≤◌, ◌==◌, ◌⊎◌, if◌then◌else◌, ◌++◌, ◌≢◌, [], ◌∷◌, length, OnOk, OnErr, IfErr, Err, IfSome, IfNone, IsSome, slice_set, slice_index_or, true, false, is_err};
+ghost use Rattle.std.specs.Prelude.{◌≡◌, ℕ, ◌+◌, ◌<◌, ◌≤◌, ◌==◌, ◌⊎◌, not, if◌then◌else◌, ◌++◌, ◌≢◌, [], ◌∷◌, length, OnOk, OnErr, IfErr, Err, IfSome, IfNone, IsSome, slice_set, slice_index_or, true, false, is_err};
 ghost use Rattle.vk_device.specs.Faults.{HasCause};
 ghost use Rattle.vk_types.specs.Touches.{the_end};
 ghost use Rattle.vk_types.specs.declared.stops.Stop.TheVariants.{Memory};
@@ -85,7 +85,7 @@ impl Core {
         requires group { IsOfGroup (face self.old).group serial.index }
         requires next { serial.number ≡ (face self.old).last serial.index + 1 }
         requires uses { (i : ℕ) → number_of staging.uses i ≡ (if i == serial.index then serial.number else 0) }
-        requires parted { IsParted (face self.old) serial.index buffer }
+        requires parted { IsParted false (face self.old) serial.index buffer }
         requires few { length ((face self.old).pending serial.index) < 1024 }
         requires store { (size : ℕ) × HasStore (face self.old) buffer size × (at + len ≤ size) }
         requires some { 0 < len }
@@ -137,8 +137,8 @@ impl Core {
         requires holds { Holds (face self.old) no_hands (L.state link.now) }
         requires group { IsOfGroup (face self.old).group serial.index }
         requires next { serial.number ≡ (face self.old).last serial.index + 1 }
-        requires source_parted { IsParted (face self.old) serial.index src }
-        requires parted { IsParted (face self.old) serial.index dst }
+        requires source_parted { IsParted (not (src == dst)) (face self.old) serial.index src }
+        requires parted { IsParted false (face self.old) serial.index dst }
         requires few { length ((face self.old).pending serial.index) < 1024 }
         requires source { (len : ℕ) × HasStore (face self.old) src len × (src_at + size ≤ len) }
         requires target { (len : ℕ) × HasStore (face self.old) dst len × (dst_at + size ≤ len) }
@@ -185,11 +185,11 @@ impl Core {
         requires holds { Holds (face self.old) no_hands (L.state link.now) }
         requires group { IsOfGroup (face self.old).group serial.index }
         requires next { serial.number ≡ (face self.old).last serial.index + 1 }
-        requires parted { IsParted (face self.old) serial.index buffer }
+        requires parted { IsParted false (face self.old) serial.index buffer }
         requires few { length ((face self.old).pending serial.index) < 1024 }
         requires store { (size : ℕ) × HasStore (face self.old) buffer size }
         ensures moved { OnOk result (Moved (face self.new) (L.state link.now) (view (face self.old) (L.state link.now)) (outline_at (face self.old)) (IsQuietBut (face self.old) (L.state link.now) buffer)) }
-        ensures parted { OnOk result (IsParted (face self.new) serial.index buffer) }
+        ensures parted { OnOk result (IsParted false (face self.new) serial.index buffer) }
         ensures opened { OnOk result (IsOpen (face self.new) buffer) }
         ensures group { (face self.new).group ≡ (face self.old).group }
         ensures err { OnErr result (Owns (face self.new).objects (L.state link.now)) }
@@ -225,7 +225,7 @@ impl Core {
         ensures { IfSome (entry buffer self.now.buffers) (λ x. result ≡ due_by x.tracker (access_of x.handle host_read)) }
     {
         match self.buffers.get(buffer) {
-            Some(store) => store.due_opening(),
+            Some(store) => store.due(Access::HOST_READ),
             None => None,
         }
     }

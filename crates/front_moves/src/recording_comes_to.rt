@@ -1,5 +1,5 @@
 // What recording nodes on buffers comes to, on plain values.
-ghost use Rattle.std.specs.Prelude.{◌≡◌, ◌≢◌, ℕ, ◌+◌, ◌<◌, ◌≤◌, ◌==◌, ◌||◌, ◌⊎◌, List, Option, Some, None, IfSome, if◌then◌else◌};
+ghost use Rattle.std.specs.Prelude.{◌≡◌, ◌≢◌, ℕ, ◌+◌, ◌<◌, ◌≤◌, ◌==◌, ◌||◌, ◌⊎◌, not, false, List, Option, Some, None, IfSome, if◌then◌else◌};
 ghost use Rattle.std.specs.Option.{option_map};
 ghost use Rattle.vk_types.specs.declared.handles.HandleId.{HandleId};
 ghost use Rattle.vk_types.specs.declared.ops.Op.TheVariants as op;
@@ -28,7 +28,7 @@ use front_model::{
 /// A copy between two buffers that was recorded shows in the second one.
 pub(crate) fn copy_comes_to()
     ensures moved { (c d : CoreParts) (s : Link) (place src src_at dst dst_at size src_len dst_len : ℕ) (serial : QueueSerial) (from to : HandleId) (one other : Option Barrier) →
-        Holds (face c) no_hands s → IsNextSerial c place serial → HasBuffer c serial.index src from src_len → HasBuffer c serial.index dst to dst_len →
+        Holds (face c) no_hands s → IsNextSerial c place serial → HasBuffer (not (src == dst)) c serial.index src from src_len → HasBuffer false c serial.index dst to dst_len →
         src_at + size ≤ src_len → dst_at + size ≤ dst_len → 0 < size → (src ≡ dst → (src_at + size ≤ dst_at) ⊎ (dst_at + size ≤ src_at)) →
         IsDueBefore src dst c.buffers one other →
         IsAccessed c d place (behind_both one other (record { op = op.CopyBuffer from src_at to dst_at size })) serial (λ b. (b == src) || (b == dst)) (copy_access src dst) →
@@ -46,12 +46,12 @@ pub(crate) fn copy_comes_to()
 /// A copy of a whole staging buffer that was recorded shows in the buffer, once the staging buffer was given away.
 pub(crate) fn upload_comes_to()
     ensures may { (c d : CoreParts) (s : Link) (place b at len size : ℕ) (serial : QueueSerial) (from to : HandleId) (due : Option Barrier) (uses : List QueueSerial) →
-        Holds (face c) (in_hand from.0 len) s → IsNextSerial c place serial → HasBuffer c serial.index b to size → at + len ≤ size → 0 < len → len ≤ the_end →
+        Holds (face c) (in_hand from.0 len) s → IsNextSerial c place serial → HasBuffer false c serial.index b to size → at + len ≤ size → 0 < len → len ≤ the_end →
         IfSome (entry b c.buffers) (λ x. due ≡ due_by x.tracker (access_of x.handle transfer_write)) →
         IsAccessed c d place (behind_both None due (record { op = op.CopyBuffer from 0 to at len })) serial (λ k. k == b) (λ k. transfer_write) →
         ((i : ℕ) → number_of uses i ≡ (if i == serial.index then serial.number else 0)) → MayGive s from.0 uses }
     ensures moved { (c d : CoreParts) (s : Link) (place b at len size : ℕ) (serial : QueueSerial) (from to : HandleId) (due : Option Barrier) (uses : List QueueSerial) →
-        Holds (face c) (in_hand from.0 len) s → IsNextSerial c place serial → HasBuffer c serial.index b to size → at + len ≤ size → 0 < len → len ≤ the_end →
+        Holds (face c) (in_hand from.0 len) s → IsNextSerial c place serial → HasBuffer false c serial.index b to size → at + len ≤ size → 0 < len → len ≤ the_end →
         IfSome (entry b c.buffers) (λ x. due ≡ due_by x.tracker (access_of x.handle transfer_write)) →
         IsAccessed c d place (behind_both None due (record { op = op.CopyBuffer from 0 to at len })) serial (λ k. k == b) (λ k. transfer_write) →
         ((i : ℕ) → number_of uses i ≡ (if i == serial.index then serial.number else 0)) →
@@ -71,17 +71,17 @@ pub(crate) fn upload_comes_to()
 /// none was due.
 pub(crate) fn opening_comes_to()
     ensures moved { (c d : CoreParts) (s : Link) (place b len : ℕ) (serial : QueueSerial) (id : HandleId) (barrier : Barrier) →
-        Holds (face c) no_hands s → IsNextSerial c place serial → HasBuffer c serial.index b id len →
+        Holds (face c) no_hands s → IsNextSerial c place serial → HasBuffer false c serial.index b id len →
         IfSome (entry b c.buffers) (λ x. Some barrier ≡ due_by x.tracker (access_of x.handle host_read)) →
         IsOpened c d place barrier serial b →
         Moved (face d) s (view (face c) s) (outline_at (face c)) (IsQuietBut (face c) s b) }
     ensures behind { (c d : CoreParts) (s : Link) (place b len : ℕ) (serial : QueueSerial) (id : HandleId) (barrier : Barrier) →
-        Holds (face c) no_hands s → IsNextSerial c place serial → HasBuffer c serial.index b id len →
+        Holds (face c) no_hands s → IsNextSerial c place serial → HasBuffer false c serial.index b id len →
         IfSome (entry b c.buffers) (λ x. Some barrier ≡ due_by x.tracker (access_of x.handle host_read)) →
-        IsOpened c d place barrier serial b → IsParted (face d) serial.index b × IsOpen (face d) b }
-    ensures already { (c : CoreParts) (s : Link) (index b len : ℕ) (id : HandleId) → Holds (face c) no_hands s → HasBuffer c index b id len →
+        IsOpened c d place barrier serial b → IsParted false (face d) serial.index b × IsOpen (face d) b }
+    ensures already { (c : CoreParts) (s : Link) (index b len : ℕ) (id : HandleId) → Holds (face c) no_hands s → HasBuffer false c index b id len →
         IfSome (entry b c.buffers) (λ x. None ≡ due_by x.tracker (access_of x.handle host_read)) →
-        IsParted (face c) index b × IsOpen (face c) b × Moved (face c) s (view (face c) s) (outline_at (face c)) (IsQuietBut (face c) s b) }
+        IsParted false (face c) index b × IsOpen (face c) b × Moved (face c) s (view (face c) s) (outline_at (face c)) (IsQuietBut (face c) s b) }
 {
     steps_hold();
     steps_may();

@@ -309,3 +309,29 @@ fn a_summary_counts_the_barriers_that_were_due(rt: HostRuntime) -> Result<(), Fa
     }
     Ok(())
 }
+
+// Two contexts copy from one buffer in turn, each twice, to buffers of their own.
+const READ_TOGETHER: &str = "angle-trace 1\nthread 0 group 0\nthread 1 group 0\nbegin\n\
+    0 ecreate 1\n0 ecurrent 1\n0 bind copy_read 1\n0 bdata copy_read 4 static_draw 01020304\n\
+    0 bind copy_write 2\n0 bdata copy_write 4 static_draw null\n0 bcopy copy_read copy_write 0 0 4\n\
+    1 @11 ecreate 2\n1 ecurrent 2\n1 bind copy_read 1\n\
+    1 bind copy_write 3\n1 bdata copy_write 4 static_draw null\n1 bcopy copy_read copy_write 0 0 4\n\
+    0 @17 bind copy_write 4\n0 bdata copy_write 4 static_draw null\n0 bcopy copy_read copy_write 0 0 4\n\
+    1 @20 bind copy_write 5\n1 bdata copy_write 4 static_draw null\n1 bcopy copy_read copy_write 0 0 4\nend\n";
+
+// Each context hands over one batch, at the end: reads of one buffer stand beside each other, without a barrier.
+#[test]
+fn contexts_read_one_buffer_side_by_side(rt: HostRuntime) -> Result<(), Fail> {
+    let alloc = rt.alloc();
+    let text = joined(alloc, READ_TOGETHER, "", "")?;
+    let (status, sink, _) = run_by(
+        alloc,
+        &["once", "--seed", "0", "--summary"],
+        text,
+        FakeDevice::last(alloc),
+    )?;
+    assert!(rt; status == Status::Ok);
+    let counts = "batches 2\nnodes 4\nbarriers 0\ncreated 5\ndestroyed 5\nend\n";
+    assert!(rt; sink.bytes().ends_with(counts.as_bytes()));
+    Ok(())
+}

@@ -72,7 +72,7 @@ pub returns-clause-owns : goal.returns-clause-owns
 returns-clause-owns c f s holds = c.steps_may.ensures.owns f no_hands s holds
 
 pub returns-clause-closed : goal.returns-clause-closed
-returns-clause-closed c f s has_closed = none_owned f s has_closed.none_stored
+returns-clause-closed c f s has_closed = none_owned f s has_closed.none_stored has_closed.licensed
 
 pub returns-clause-may : goal.returns-clause-may
 returns-clause-may c f s thread asked stands declared its_data referred = record {

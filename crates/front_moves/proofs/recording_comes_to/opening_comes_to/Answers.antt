@@ -14,7 +14,7 @@ use Rattle.front_model.specs.Stands.{is_image_of, uses_of, host_touch}
 use Rattle.front_model.specs.Steps.{noted_store, with_nodes, IsOrdered, KeepsContents, MayRecord}
 use Rattle.front_model.proofs.Base.{map_is, put-other}
 use Rattle.std.proofs.lemmas.Bool.{cond-true, eq-eqb}
-use Rattle.std.proofs.Common.{List}
+use Rattle.std.proofs.Common.{List, inl}
 use Rattle.back_core.specs.Link.{Link}
 use Rattle.buffer_helper.specs.Buffers.{BufferStore, access_of}
 use Rattle.front_moves.specs.Buffers.{stored_of}
@@ -32,7 +32,8 @@ use Rattle.front_moves.proofs.Recorded.{opened_recorded, face_recorded, outlines
 use Rattle.front_moves.proofs.Recordable.{barrier_touches, barrier_may}
 use Rattle.front_moves.proofs.Fencing.{fence_use}
 use Rattle.front_moves.proofs.Dues.{TellsDue, DueOf, DueLayouts, no_image, store_due, due_fence, some_host, if_there, opens}
-use Rattle.front_moves.proofs.BufferStores.{IsStore, store_of, store_at, Distinct, handle_is, other_handle}
+use Rattle.front_moves.proofs.BufferStores.{IsStore, store_of, store_at, Distinct, handle_is, other_handle, buffer_parted}
+use Rattle.front_moves.proofs.Sharing.{untouched}
 use Rattle.front_moves.proofs.recording_comes_to.opening_comes_to.Goals as goal
 
 -- What the barrier is
@@ -64,11 +65,11 @@ after c d s place b len serial id barrier h distinct next of fence was_opened =
     subst (λ (y : BufferStore). uses_in (commands 0 (barrier_node barrier ∷ [])) y.handle.0 ≡ Fenced barrier ∷ []) one (ap (uses_in (commands 0 (barrier_node barrier ∷ []))) of.handle ∙ fence_use id (Some barrier) fence)))
     (λ k x is. barrier_touches barrier id x.handle.0 (fence barrier refl).0 ∙ handle_is c k b id len x distinct of is)
 
-still_parted : (c : CoreParts) (index b len : ℕ) (id : HandleId) (nodes : List Node) → HasBuffer c index b id len → IsParted (with_nodes (face c) index nodes) index b
-still_parted c index b len id nodes has i x ne at =
+still_parted : (c : CoreParts) (index b len : ℕ) (id : HandleId) (nodes : List Node) → HasBuffer false c index b id len → IsParted false (with_nodes (face c) index nodes) index b
+still_parted c index b len id nodes has i ne x at =
     let from = map_is (noted_store index ((face c).last index + 1) nodes) ((face c).objects (Buffer b)) x at in
-    ap (λ l. nodes_touch l x.handle) (put-other (face c).pending index ((face c).pending index ++ nodes) i ne)
-    ∙ subst (λ (y : Stored). nodes_touch ((face c).pending i) y.handle ≡ false) from.2 (has.parted i from.0 ne from.1)
+    inl (ap (λ l. nodes_touch l x.handle) (put-other (face c).pending index ((face c).pending index ++ nodes) i ne)
+    ∙ subst (λ (y : Stored). nodes_touch ((face c).pending i) y.handle ≡ false) from.2 (untouched ((face c).pending i) from.0 (has.parted i ne from.0 from.1)))
 
 is_open : (c d : CoreParts) (place b : ℕ) (serial : QueueSerial) (barrier : Barrier) → IfSome (entry b c.buffers) (λ x. Some barrier ≡ due_by x.tracker (access_of x.handle host_read)) → IsOpened c d place barrier serial b → IsOpen (face d) b
 is_open c d place b serial barrier is was_opened x at = go (entry b c.buffers) is (sym now ∙ at)
@@ -95,7 +96,7 @@ returns l = record {
       let f : Face = face c in
       let nodes : List Node = barrier_node barrier ∷ [] in
       let distinct : Distinct c = λ o q x y. l.steps_may.ensures.distinct f no_hands s o q x y h in
-      let of : IsStore c b id len = store_of c serial.index b id len has in
+      let of : IsStore c b id len = store_of false c serial.index b id len has in
       let at = store_at c b of.store of.is in
       let laws = l.due_nodes_may_be_recorded.ensures in
       let o : Opened c s b id barrier = opened laws.told l.due_barriers_fit.ensures.of l.due_barriers_fit.ensures.layouts c s b len id barrier h of is in
@@ -105,7 +106,7 @@ returns l = record {
       let may : MayRecord f no_hands s serial.index nodes =
       barrier_may f no_hands s serial.index id barrier o.fence next.group next.few ordered (subst (λ k. LayoutsFit k None) (sym kind_is) refl)
       (inr (Buffer b, stored_of of.store, at, of.handle))
-      (λ i ne. subst (λ j. nodes_touch (f.pending i) j ≡ false) of.handle (has.parted i (stored_of of.store) ne at)) in
+      (λ i ne. buffer_parted c serial.index b id len i has of ne) in
       let same : face d ≡ with_nodes f serial.index nodes = after c d s place b len serial id barrier h distinct next of o.fence was_opened in
       record {
         holds = subst (λ g. Holds g no_hands s) (sym same) (l.steps_hold.ensures.records f no_hands s serial.index nodes h may);
@@ -117,10 +118,10 @@ returns l = record {
       };
   behind = λ c d s place b len serial id barrier h next has is was_opened.
       let distinct : Distinct c = λ o q x y. l.steps_may.ensures.distinct (face c) no_hands s o q x y h in
-      let of : IsStore c b id len = store_of c serial.index b id len has in
+      let of : IsStore c b id len = store_of false c serial.index b id len has in
       let o : Opened c s b id barrier = opened l.due_nodes_may_be_recorded.ensures.told l.due_barriers_fit.ensures.of l.due_barriers_fit.ensures.layouts c s b len id barrier h of is in
       let same : face d ≡ with_nodes (face c) serial.index (barrier_node barrier ∷ []) = after c d s place b len serial id barrier h distinct next of o.fence was_opened in (
-        subst (λ g. IsParted g serial.index b) (sym same) (still_parted c serial.index b len id (barrier_node barrier ∷ []) has),
+        subst (λ g. IsParted false g serial.index b) (sym same) (still_parted c serial.index b len id (barrier_node barrier ∷ []) has),
         is_open c d place b serial barrier is was_opened,
       );
   already = λ c s index b len id h has is. (has.parted, open_now c b is, record { holds = h; view_is = refl; outlines_are = refl; still = λ o q. q.0 });

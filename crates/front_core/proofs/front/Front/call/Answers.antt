@@ -88,3 +88,17 @@ pub returns-in-Err-note-clause-at_back : goal.returns-in-Err-note-clause-at_back
 returns-in-Err-note-clause-at_back g c =
     subst (λ (x : FrontModel). AtBack (g.L.BackLink.state c.args.link.now) (g.L.BackLink.state c.answer.new.link) (g.L.BackLink.told c.args.link.now) (g.L.BackLink.told c.answer.new.link) (due_of x.state c.args.thread c.args.call.now) (waits_of x.state c.args.thread c.args.call.now) true (MayHandOver (face x.core) x.state x.serials x.syncs c.args.thread c.args.call.now)) c.self.view_is
     (though_stopped c.in-Ok-answer.ensures.at_back)
+
+pub returns-in_default-clause-licensed : goal.returns-in_default-clause-licensed
+returns-in_default-clause-licensed g c = (c.histories_come_to.ensures.owns (face c.args.self.now.core) (g.L.BackLink.state c.args.link.now) c.requires.stands.stands.holds).licensed
+
+pub returns-in-Err-clause-licensed : goal.returns-in-Err-clause-licensed
+returns-in-Err-clause-licensed g c = c.in-Err.ensures.err.licensed
+
+pub returns-in-Ok-note-clause-licensed : goal.returns-in-Ok-note-clause-licensed
+returns-in-Ok-note-clause-licensed g c =
+    (c.histories_come_to.ensures.owns (face c.answer.new.self.core) (g.L.BackLink.state c.answer.new.link) c.in-Ok-answer.ensures.done.backs.holds).licensed
+
+pub returns-in-Err-note-clause-licensed : goal.returns-in-Err-note-clause-licensed
+returns-in-Err-note-clause-licensed g c =
+    (c.histories_come_to.ensures.owns (face c.answer.new.self.core) (g.L.BackLink.state c.answer.new.link) c.in-Ok-answer.ensures.done.backs.holds).licensed

@@ -66,3 +66,12 @@ returns-in-Err-close-clause-err g c = record {
   group = c.close.ensures.group ∙ c.flush_all.ensures.group ∙ ap (λ (f : FrontModel). (face f.core).group) c.self.view_is;
   owns = c.in-Err-close.ensures.err;
 }
+
+pub returns-in-Ok-close-clause-licensed : goal.returns-in-Ok-close-clause-licensed
+returns-in-Ok-close-clause-licensed g c = c.in-Ok-close.ensures.closed.licensed
+
+pub returns-in-Err-close-clause-licensed : goal.returns-in-Err-close-clause-licensed
+returns-in-Err-close-clause-licensed g c = c.in-Err-close.ensures.err.licensed
+
+pub returns-in-Err-clause-licensed : goal.returns-in-Err-clause-licensed
+returns-in-Err-clause-licensed g c = c.in-Err.ensures.err.licensed

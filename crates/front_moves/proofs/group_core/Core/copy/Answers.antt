@@ -1,19 +1,22 @@
-use Rattle.std.proofs.Common.{sym, subst, arith}
+use Rattle.std.proofs.Common.{◌==◌, false, sym, subst, arith}
+use Rattle.std.specs.Prelude.{not}
 use Rattle.std.proofs.lemmas.Result.{on_ok_weaker}
 use Rattle.front_moves.specs.Core.{face, IsParted}
 use Rattle.front_moves.proofs.AtBack.{did_for, might_stop, good_then}
 use Rattle.front_moves.proofs.Handing.{first_parts, second_parts}
-use Rattle.front_moves.proofs.MovesInTurn.{same_then, store_kept, parted_kept, copy_then}
+use Rattle.front_moves.proofs.MovesInTurn.{same_then, store_kept, copy_then}
+use Rattle.front_moves.proofs.Preparing.{parted_more}
 use Rattle.front_moves.proofs.group_core.Core.copy.Goals as goal
 
 pub record_copy-requires-clause-source_parted : goal.record_copy-requires-clause-source_parted
 record_copy-requires-clause-source_parted g c =
-    subst (λ i. IsParted (face c.prepare-in-Ok.new.self) i c.args.src) (sym c.next_serial-serial.ensures.index)
-    (parted_kept (face c.prepare.new.self) (face c.prepare-in-Ok.new.self) c.args.index c.args.src c.in-Ok-prepare.ensures.flushed c.in-Ok.ensures.parted)
+    subst (λ i. IsParted (not (c.args.src == c.args.dst)) (face c.prepare-in-Ok.new.self) i c.args.src) (sym c.next_serial-serial.ensures.index)
+    (parted_more (not (c.args.src == c.args.dst)) (face c.prepare.new.self) (face c.prepare-in-Ok.new.self) c.args.index c.args.src c.in-Ok-prepare.ensures.flushed
+    c.in-Ok.ensures.parted)
 
 pub record_copy-requires-clause-parted : goal.record_copy-requires-clause-parted
 record_copy-requires-clause-parted g c =
-    subst (λ i. IsParted (face c.prepare-in-Ok.new.self) i c.args.dst) (sym c.next_serial-serial.ensures.index) c.in-Ok-prepare.ensures.parted
+    subst (λ i. IsParted false (face c.prepare-in-Ok.new.self) i c.args.dst) (sym c.next_serial-serial.ensures.index) c.in-Ok-prepare.ensures.parted
 
 pub record_copy-requires-clause-source : goal.record_copy-requires-clause-source
 record_copy-requires-clause-source g c =
@@ -41,13 +44,13 @@ returns-in-Ok-prepare-clause-moved g c =
 
 pub returns-in-Ok-prepare-clause-at_back : goal.returns-in-Ok-prepare-clause-at_back
 returns-in-Ok-prepare-clause-at_back g c =
-    might_stop (good_then (omega arith) (first_parts (face c.args.self.now) c.args.index c.args.src c.args.dst)
-    (second_parts (face c.args.self.now) (face c.prepare.new.self) c.args.index c.args.src c.args.dst c.in-Ok.ensures.flushed.objects) c.in-Ok.ensures.at_back c.in-Ok-prepare.ensures.at_back)
+    might_stop (good_then (omega arith) (first_parts (face c.args.self.now) c.args.index (c.args.src, not (c.args.src == c.args.dst)) (c.args.dst, false))
+    (second_parts (face c.args.self.now) (face c.prepare.new.self) c.args.index (c.args.src, not (c.args.src == c.args.dst)) (c.args.dst, false) c.in-Ok.ensures.flushed.objects) c.in-Ok.ensures.at_back c.in-Ok-prepare.ensures.at_back)
 
 pub returns-in-Err-prepare-clause-at_back : goal.returns-in-Err-prepare-clause-at_back
 returns-in-Err-prepare-clause-at_back g c =
-    good_then (omega arith) (first_parts (face c.args.self.now) c.args.index c.args.src c.args.dst)
-    (second_parts (face c.args.self.now) (face c.prepare.new.self) c.args.index c.args.src c.args.dst c.in-Ok.ensures.flushed.objects) c.in-Ok.ensures.at_back c.in-Err-prepare.ensures.at_back
+    good_then (omega arith) (first_parts (face c.args.self.now) c.args.index (c.args.src, not (c.args.src == c.args.dst)) (c.args.dst, false))
+    (second_parts (face c.args.self.now) (face c.prepare.new.self) c.args.index (c.args.src, not (c.args.src == c.args.dst)) (c.args.dst, false) c.in-Ok.ensures.flushed.objects) c.in-Ok.ensures.at_back c.in-Err-prepare.ensures.at_back
 
 pub returns-in-Err-clause-at_back : goal.returns-in-Err-clause-at_back
-returns-in-Err-clause-at_back g c = did_for (omega arith) (first_parts (face c.args.self.now) c.args.index c.args.src c.args.dst) c.in-Err.ensures.at_back
+returns-in-Err-clause-at_back g c = did_for (omega arith) (first_parts (face c.args.self.now) c.args.index (c.args.src, not (c.args.src == c.args.dst)) (c.args.dst, false)) c.in-Err.ensures.at_back

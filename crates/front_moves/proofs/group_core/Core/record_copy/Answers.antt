@@ -1,5 +1,5 @@
-use Rattle.std.proofs.Common.{◌==◌, sym, ap, subst, ◌∙◌}
-use Rattle.std.specs.Prelude.{◌||◌}
+use Rattle.std.proofs.Common.{◌==◌, false, sym, ap, subst, ◌∙◌}
+use Rattle.std.specs.Prelude.{◌||◌, not}
 use Rattle.front_moves.specs.Core.{CoreParts}
 use Rattle.front_moves.specs.Recording.{IsNextSerial, HasBuffer, IsDueBefore, behind_both, copy_access}
 use Rattle.front_moves.proofs.Accessing.{if_err}
@@ -16,9 +16,9 @@ returns-in-Ok-clause-moved g c =
     let next : IsNextSerial old c.place-place.result c.args.serial = record { group = c.requires.group; place_is = c.place-place.ensures.place; next = c.requires.next; few = c.requires.few } in
     let source = c.requires.source in
     let target = c.requires.target in
-    let from : HasBuffer old c.args.serial.index c.args.src c.id_of-from.result source.0 =
+    let from : HasBuffer (not (c.args.src == c.args.dst)) old c.args.serial.index c.args.src c.id_of-from.result source.0 =
     record { handle = c.id_of-from.ensures.handle; store = source.1; end = c.id_of-from.ensures.size source.0 source.1; parted = c.requires.source_parted } in
-    let to : HasBuffer old c.args.serial.index c.args.dst c.id_of-to.result target.0 =
+    let to : HasBuffer false old c.args.serial.index c.args.dst c.id_of-to.result target.0 =
     record { handle = c.id_of-to.ensures.handle; store = target.1; end = c.id_of-to.ensures.size target.0 target.1; parted = c.requires.parted } in
     let due : IsDueBefore c.args.src c.args.dst old.buffers c.in-Ok.one c.in-Ok.other = subst (λ (p : CoreParts). IsDueBefore c.args.src c.args.dst p.buffers c.in-Ok.one c.in-Ok.other) c.self.view_is c.in-Ok.ensures.due in
     let nodes = behind_both c.in-Ok.one c.in-Ok.other (copy_node c.id_of-from.result c.args.src_at c.id_of-to.result c.args.dst_at c.args.size) in

@@ -1,4 +1,4 @@
-use Rattle.std.proofs.Common.{◌≡◌, ◌==◌, sym, ap, subst, ◌∙◌}
+use Rattle.std.proofs.Common.{◌≡◌, ◌==◌, sym, ap, subst, ◌∙◌, false}
 use Rattle.front_moves.specs.Core.{CoreParts}
 use Rattle.front_moves.specs.Recording.{IsNextSerial, HasBuffer, IsOpened}
 use Rattle.front_moves.proofs.Outcomes.{from_ok, from_not_ok}
@@ -11,7 +11,7 @@ use Rattle.front_moves.proofs.group_core.Core.record_opening.Goals.{else-is_ok-v
 next_serial : (g : Over) (c : goal.Then-is_ok-2 g) → IsNextSerial c.args.self.now c.place-place.result c.args.serial
 next_serial g c = record { group = c.requires.group; place_is = c.place-place.ensures.place; next = c.requires.next; few = c.requires.few }
 
-has_buffer : (g : Over) (c : goal.Then-is_ok-2 g) → HasBuffer c.args.self.now c.args.serial.index c.args.buffer c.id_of-id.result c.requires.store.0
+has_buffer : (g : Over) (c : goal.Then-is_ok-2 g) → HasBuffer false c.args.self.now c.args.serial.index c.args.buffer c.id_of-id.result c.requires.store.0
 has_buffer g c = record { handle = c.id_of-id.ensures.handle; store = c.requires.store.1; end = c.id_of-id.ensures.size c.requires.store.0 c.requires.store.1; parted = c.requires.parted }
 
 abbrev new_parts : (g : Over) (c : goal.Then-is_ok-2 g) → CoreParts

@@ -1,6 +1,6 @@
 use Rattle.std.specs.Prelude.{slice_set, slice_index_or, ◌++◌, [], ◌+◌}
 use Rattle.barriers.specs.Recording.{handle}
-use Rattle.std.proofs.Common.{◌≡◌, ◌≤◌, ◌==◌, sym, ap, ◌∙◌, subst, arith}
+use Rattle.std.proofs.Common.{◌≡◌, ◌≤◌, ◌==◌, sym, ap, ◌∙◌, subst, arith, false}
 use Rattle.std.specs.Prelude.{None, IfSome}
 use Rattle.vk_types.specs.declared.handles.HandleId.{HandleId}
 use Rattle.vk_types.specs.declared.handles.Kind.TheVariants as kind
@@ -33,7 +33,7 @@ new_parts g c = record { indexes = c.self.inside.indexes; pending = c.push_copy.
 next_serial : (g : Over) (c : Then-is_ok g) → IsNextSerial c.args.self.now c.place-place.result c.args.serial
 next_serial g c = record { group = c.requires.group; place_is = c.place-place.ensures.place; next = c.requires.next; few = c.requires.few }
 
-has_buffer : (g : Over) (c : Then-is_ok g) → HasBuffer c.args.self.now c.args.serial.index c.args.buffer c.id_of-dst.result c.requires.store.0
+has_buffer : (g : Over) (c : Then-is_ok g) → HasBuffer false c.args.self.now c.args.serial.index c.args.buffer c.id_of-dst.result c.requires.store.0
 has_buffer g c = record { handle = c.id_of-dst.ensures.handle; store = c.requires.store.1; end = c.id_of-dst.ensures.size c.requires.store.0 c.requires.store.1; parted = c.requires.parted }
 
 is_due : (g : Over) (c : Then-is_ok g) → IfSome (entry c.args.buffer c.args.self.now.buffers) (λ x. c.in-Ok.due ≡ due_by x.tracker (access_of x.handle transfer_write))

@@ -1,4 +1,4 @@
-use Rattle.std.proofs.Common.{◌≡◌, ap, subst, ◌∙◌, arith}
+use Rattle.std.proofs.Common.{◌≡◌, sym, ap, subst, ◌∙◌, arith, false}
 use Rattle.std.specs.Prelude.{Option}
 use Rattle.back_core.specs.Link.{Link}
 use Rattle.front_model.specs.Face.{Object, Buffer, Face, Outline}
@@ -17,7 +17,7 @@ record_opening-requires-clause-store g c =
 pub wait_for_uses-requires-clause-untouched : goal.wait_for_uses-requires-clause-untouched
 wait_for_uses-requires-clause-untouched g c =
     untouched_after (face c.record_opening.new.self) (face c.part.new.self) c.args.index c.args.buffer c.in-Ok-part.ensures.some.flushed c.in-Ok-part.ensures.apart
-    (subst (λ i. IsParted (face c.record_opening.new.self) i c.args.buffer) c.next_serial-serial.ensures.index c.in-Ok-record_opening.ensures.parted)
+    (subst (λ i. IsParted false (face c.record_opening.new.self) i c.args.buffer) c.next_serial-serial.ensures.index c.in-Ok-record_opening.ensures.parted)
 
 pub returns-in-Ok-part-clause-quiet : goal.returns-in-Ok-part-clause-quiet
 returns-in-Ok-part-clause-quiet g c =
@@ -27,7 +27,7 @@ returns-in-Ok-part-clause-quiet g c =
     let has : HasStore k c.args.buffer c.requires.store.0 =
     ap (λ (o : Object → Option Outline). o (Buffer c.args.buffer)) (c.in-Ok-part.ensures.some.moved.outlines_are ∙ c.in-Ok-record_opening.ensures.moved.outlines_are ∙ c.in-Ok.ensures.moved.outlines_are)
     ∙ c.requires.store.1 in
-    let parted : IsParted f c.args.index c.args.buffer = subst (λ i. IsParted f i c.args.buffer) c.next_serial-serial.ensures.index c.in-Ok-record_opening.ensures.parted in
+    let parted : IsParted false f c.args.index c.args.buffer = subst (λ i. IsParted false f i c.args.buffer) c.next_serial-serial.ensures.index c.in-Ok-record_opening.ensures.parted in
     let untouched : IsUntouched k c.args.buffer = untouched_after f k c.args.index c.args.buffer c.in-Ok-part.ensures.some.flushed c.in-Ok-part.ensures.apart parted in
     let opened : IsOpen k c.args.buffer = open_after f k c.args.buffer c.in-Ok-part.ensures.some.flushed c.in-Ok-record_opening.ensures.opened in
     on_ok_both c.wait_for_uses.result
@@ -49,12 +49,12 @@ pub returns-in-Ok-part-clause-at_back : goal.returns-in-Ok-part-clause-at_back
 returns-in-Ok-part-clause-at_back g c =
     then_handless (omega arith)
     (might_wait (good_then {due = 0} {MayHand = IsSettling (face c.args.self.now) c.args.index c.args.buffer} (omega arith) (settles_parting (face c.args.self.now) c.args.index c.args.buffer)
-    (settles_reading (face c.args.self.now) (face c.record_opening.new.self) c.args.index c.args.buffer) c.in-Ok.ensures.at_back c.in-Ok-part.ensures.at_back))
+    (settles_reading (face c.args.self.now) (face c.record_opening.new.self) c.args.index c.args.buffer false) c.in-Ok.ensures.at_back c.in-Ok-part.ensures.at_back))
     c.wait_for_uses.ensures.at_back
 
 pub returns-in-Err-part-clause-at_back : goal.returns-in-Err-part-clause-at_back
 returns-in-Err-part-clause-at_back g c =
-    might_wait (good_then (omega arith) (settles_parting (face c.args.self.now) c.args.index c.args.buffer) (settles_reading (face c.args.self.now) (face c.record_opening.new.self) c.args.index c.args.buffer)
+    might_wait (good_then (omega arith) (settles_parting (face c.args.self.now) c.args.index c.args.buffer) (settles_reading (face c.args.self.now) (face c.record_opening.new.self) c.args.index c.args.buffer false)
     c.in-Ok.ensures.at_back c.in-Err-part.ensures.at_back)
 
 pub returns-in-Err-record_opening-clause-at_back : goal.returns-in-Err-record_opening-clause-at_back
@@ -62,3 +62,7 @@ returns-in-Err-record_opening-clause-at_back g c = might_wait (might_stop (did_f
 
 pub returns-in-Err-clause-at_back : goal.returns-in-Err-clause-at_back
 returns-in-Err-clause-at_back g c = might_wait (did_for (omega arith) (settles_parting (face c.args.self.now) c.args.index c.args.buffer) c.in-Err.ensures.at_back)
+
+pub record_opening-requires-clause-parted : goal.record_opening-requires-clause-parted
+record_opening-requires-clause-parted g c =
+    subst (λ i. IsParted false (face c.prepare.new.self) i c.args.buffer) (sym c.next_serial-serial.ensures.index) c.in-Ok.ensures.parted
