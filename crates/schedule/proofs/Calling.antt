@@ -9,11 +9,8 @@ use Rattle.vk_device.specs.declared.logged.Logged.{Logged}
 use Rattle.gl_calls.specs.declared.reply.Entry.{Entry}
 use Rattle.trace_text.specs.Reading.{Plan}
 use Rattle.play_model.specs.Plays.{Play, members, entry_on}
-use Rattle.world_core.specs.declared.event.Stepped.{Stepped}
-use Rattle.world_core.specs.declared.event.Stepped.TheVariants.{Done, Nothing, NotReady, Ended}
-use Rattle.world_core.specs.declared.event.Event.TheVariants.{Submit, Turn, Retire}
-use Rattle.world_core.specs.World.{WorldModel, play_of}
-use Rattle.world_core.specs.Steps.{IsStep, HasCalled}
+use Rattle.world_core.specs.World.{WorldModel, histories_of, play_at, play_of}
+use Rattle.world_core.specs.Steps.{IsAtBack, HasCalled}
 use Rattle.schedule.specs.Moves.{Move, Calls, Submits, Turns, Retires, Cleans, caller_of, callers, callers_of_group}
 use Rattle.schedule.specs.Made.{IsMade, AreMade}
 use Rattle.schedule.proofs.Members.{is_one_of, member_test}
@@ -45,8 +42,11 @@ still old new move none threads play = record {
       ∙ ap (λ (l : List ℕ). callers_in old group ++ filter (λ thread. is_one_of thread (members old.threads group)) l) (sym none);
 }
 
-still_same : {D : Type 0} (old new : WorldModel D) (move : Move) → caller_of move ≡ [] → new ≡ old → Adds old new move
-still_same {D} old new move none same = still old new move none (ap (λ (w : WorldModel D). w.threads) same) (ap play_of same)
+-- what was played follows from the counts and the fronts
+same_play : {D : Type 0} (old new : WorldModel D) → IsAtBack old new → play_of new ≡ play_of old
+same_play old new at_back =
+    ap (λ (done : List ℕ). play_at done (histories_of new.fronts)) at_back.done
+    ∙ ap (λ fronts. play_at old.done (histories_of fronts)) at_back.fronts
 
 called : {D : Type 0} (old new : WorldModel D) (thread : ℕ) → HasCalled old new thread → Adds old new (Calls thread)
 called old new thread c = record { threads = c.threads; calls = λ group. go group (cases_eq group own) }
@@ -75,28 +75,10 @@ called old new thread c = record { threads = c.threads; calls = λ group. go gro
 
 adds : {D : Type 0} (journal : D → List Logged) (old new : WorldModel D) (move : Move) → IsMade journal old new move → Adds old new move
 adds journal old new (Calls thread) made = called old new thread made
-adds journal old new Submits made = go made.0 made.1
-  where
-    go : (s : Stepped) → IsStep journal old new Submit s → Adds old new Submits
-    go Done step = still old new Submits refl step.0.threads step.0.play
-    go Nothing step = still old new Submits refl step.0.threads step.0.play
-    go NotReady step = absurd step
-    go Ended step = absurd step
-adds journal old new Turns made = go made.0 made.1
-  where
-    go : (s : Stepped) → IsStep journal old new Turn s → Adds old new Turns
-    go Done step = still old new Turns refl step.0.threads step.0.play
-    go Nothing step = still old new Turns refl step.0.threads step.0.play
-    go NotReady step = absurd step
-    go Ended step = absurd step
-adds journal old new Retires made = go made.0 made.1
-  where
-    go : (s : Stepped) → IsStep journal old new Retire s → Adds old new Retires
-    go Done step = still old new Retires refl step.0.threads step.0.play
-    go Nothing step = still_same old new Retires refl step.0
-    go NotReady step = absurd step
-    go Ended step = absurd step
-adds journal old new Cleans made = still old new Cleans refl made.2.0.threads made.2.0.play
+adds journal old new Submits made = still old new Submits refl made.1.0.threads (same_play old new made.1.0)
+adds journal old new Turns made = still old new Turns refl made.1.0.threads (same_play old new made.1.0)
+adds journal old new Retires made = still old new Retires refl made.1.0.threads (same_play old new made.1.0)
+adds journal old new Cleans made = still old new Cleans refl made.2.0.threads (same_play old new made.2.0)
 
 -- the threads stay
 pub threads_stay : {D : Type 0} (journal : D → List Logged) (old new : WorldModel D) (moves : List Move) →

@@ -6,7 +6,7 @@ use Rattle.rand_xoshiro.specs.Xoshiro256.{plus_plus}
 use Rattle.vk_device.specs.declared.logged.Logged.{Logged}
 use Rattle.trace_text.specs.declared.trace.Line.{Line}
 use Rattle.trace_text.specs.Reading.{Plan}
-use Rattle.play_model.specs.Plays.{Play, MayPlay, IsReady, none_done}
+use Rattle.play_model.specs.Plays.{MayPlay, IsReady, none_done}
 use Rattle.world_core.specs.declared.event.Stepped.{Stepped}
 use Rattle.world_core.specs.declared.event.Stepped.TheVariants.{Done, Nothing, NotReady, Ended}
 use Rattle.world_core.specs.declared.event.Event.TheVariants.{Call}
@@ -99,7 +99,7 @@ module _ {D : Type 0} (old new : WorldModel D) (thread : ℕ) (called : HasCalle
   fewer_left from at_back =
       ap (λ (l : List Plan). lines_left l new.done + 1) called.threads ∙ one_line_less
       ∙ ap (λ (l : List Plan). lines_left l old.done) at_back.threads
-      ∙ ap (λ (p : Play). lines_left from.threads p.done) at_back.play
+      ∙ ap (lines_left from.threads) at_back.done
 
 -- A round on a world's way
 
@@ -128,7 +128,7 @@ module _ {D : Type 0} (journal : D → List Logged) (old now : WorldModel D) (mo
     is_named =
         picked
         ∙ ap (λ (l : List Plan). slice_index (ready_threads l back.done) (word / 65536 % count)) at_back.threads
-        ∙ ap (λ (p : Play). slice_index (ready_threads now.threads p.done) (word / 65536 % count)) at_back.play
+        ∙ ap (λ (d : List ℕ). slice_index (ready_threads now.threads d) (word / 65536 % count)) at_back.done
         ∙ ap (λ (n : ℕ). slice_index (ready_threads now.threads now.done) (word / 65536 % n)) count_is
 
     pub before_call : IsOnWay journal old back moves (Calls thread ∷ others thread)
@@ -146,7 +146,7 @@ module _ {D : Type 0} (journal : D → List Logged) (old now : WorldModel D) (mo
         threads = called.threads ∙ at_back.threads
 
         done : raised now.done thread ≡ new.done
-        done = ap (λ (p : Play). raised p.done thread) (sym at_back.play) ∙ sym (raised_by back new thread called)
+        done = ap (λ (d : List ℕ). raised d thread) (sym at_back.done) ∙ sym (raised_by back new thread called)
 
         lines_are : lines_left now.threads now.done - 1 ≡ lines_left new.threads new.done
         lines_are =

@@ -80,4 +80,9 @@ way_ends journal old now moves way = subst (AreMade journal old now) (sym (appen
 
 -- no thread went on in two steps
 pub at_back_more : {D : Type 0} (old now new : WorldModel D) → IsAtBack old now → IsAtBack now new → IsAtBack old new
-at_back_more old now new one two = record { threads = two.threads ∙ one.threads; play = two.play ∙ one.play; running = two.running }
+at_back_more old now new one two = record {
+  threads = two.threads ∙ one.threads;
+  done = two.done ∙ one.done;
+  fronts = two.fronts ∙ one.fronts;
+  running = two.running;
+}

@@ -1,6 +1,5 @@
 -- A world that is led through a schedule and closed, and what is left of it.
-use mathlib.Core.Path.{fun_ext}
-use Rattle.std.proofs.Common.{◌≡◌, ℕ, zero, suc, ◌<◌, ◌≤◌, List, [], ◌∷◌, ◌++◌, length, map, refl, sym, ap, ◌∙◌, subst}
+use Rattle.std.proofs.Common.{◌≡◌, ℕ, ◌<◌, ◌≤◌, List, [], ◌∷◌, ◌++◌, length, map, refl, sym, ap, ◌∙◌, subst}
 use Rattle.std.specs.Prelude.{Result, Ok, Err, OnErr}
 use Rattle.std.proofs.lemmas.List.{append-nil}
 use Rattle.gl_calls.specs.declared.reply.Entry.{Entry}
@@ -11,18 +10,17 @@ use Rattle.back_core.specs.Run.{journal_of}
 use Rattle.trace_text.specs.Reading.{Plan}
 use Rattle.reply_text.specs.declared.history.GroupHistory.{GroupHistory}
 use Rattle.reply_text.specs.declared.history.Tail.{Tail}
-use Rattle.play_model.specs.Plays.{Play, HasPlayed, HasEnded, none_done, opening_play}
-use Rattle.world_core.specs.World.{WorldModel, AreHistories, play_of, due_in, new_world, history_at, group_numbers}
+use Rattle.play_model.specs.Plays.{Play, HasPlayed, HasEnded, opening_play}
+use Rattle.world_core.specs.World.{WorldModel, AreHistories, IsNewWorld, play_of, due_in}
 use Rattle.world_core.specs.Steps.{HasHalted}
 use Rattle.world_core.specs.Ends.{HasClosed, HasFinished}
 use Rattle.schedule.specs.Moves.{Move, schedule, callers_of_group}
 use Rattle.schedule.specs.Made.{AreMade, AreCutOff}
 use Rattle.trace_run.specs.declared.saying.Output.{Output}
-use Rattle.trace_run.specs.Runs.{AreReplies, AnswersFirst, RanAll}
-use Rattle.trace_run.specs.Led.{AreCalls, WasLed, WasLedOn}
+use Rattle.trace_run.specs.Runs.{AreCalls, AreReplies, AnswersFirst, RanAll}
+use Rattle.trace_run.specs.Led.{WasLed, WasLedOn}
 use Rattle.trace_run.specs.Once.{tail_of}
 
--- the moves leave the threads as they are
 -- what holds, holds where a result is `Err`
 pub on_err : {T E P : Type 0} (r : Result T E) → P → OnErr r P
 on_err (Ok v) p = tt
@@ -32,20 +30,9 @@ pub of_err : {T E P : Type 0} (r : Result T E) (e : E) → r ≡ Err e → OnErr
 of_err {P = P} r e is p = subst (λ (x : Result _ _). OnErr x P) is p
 
 -- no group of a new world answered
-nothing_at : (groups : List ℕ) (group : ℕ) → history_at (map (λ (n : ℕ). []) groups) group ≡ []
-nothing_at [] group = refl
-nothing_at (first ∷ groups) zero = refl
-nothing_at (first ∷ groups) (suc group) = nothing_at groups group
-
-playing : List Plan → (ℕ → List Entry) → Play
-playing threads histories = record { done = none_done threads; histories = histories }
-
-pub opened : (D : Type 0) (w : WorldModel D) (threads : List Plan) (device : D) → w ≡ new_world threads device →
+pub opened : (D : Type 0) (w : WorldModel D) (threads : List Plan) (device : D) → IsNewWorld threads device w →
     play_of w ≡ opening_play w.threads
-unfolding playing
-opened D w threads device is =
-    subst (λ (x : WorldModel D). play_of x ≡ opening_play x.threads) (sym is)
-    (ap (playing threads) (fun_ext (λ group. nothing_at group_numbers group)))
+opened D w threads device is = is.play ∙ ap opening_play (sym is.threads_are)
 
 -- what the moves of a schedule leave of a play, by the laws of those
 module _ (D : Type 0) (journal : D → List Logged) where
@@ -63,7 +50,7 @@ module _ (D : Type 0) (journal : D → List Logged) where
         ∙ ap (λ (p : Play). map (λ (e : Entry). e.thread) (p.histories group) ++ callers_of_group old.threads group moves) fresh
 
     pub was_led : (middle new : WorldModel D) → AreMade journal old middle (schedule old.threads seed) →
-        ((thread : ℕ) → thread < length old.threads → HasEnded old.threads middle.done thread) → HasClosed middle new →
+        ((thread : ℕ) → thread < length old.threads → HasEnded old.threads middle.done thread) → HasClosed journal middle new →
         WasLed old.threads seed new
     was_led middle new made all closed =
         let threads : new.threads ≡ old.threads = closed.threads ∙ keep journal old middle (schedule old.threads seed) made in

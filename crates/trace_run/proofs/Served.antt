@@ -8,8 +8,8 @@ use Rattle.trace_text.specs.declared.trace.Line.{Line}
 use Rattle.trace_text.specs.Reading.{Plan}
 use Rattle.trace_text.specs.Orders.{IsTrace}
 use Rattle.world_core.specs.World.{IsServed}
-use Rattle.trace_run.specs.Runs.{IsSound, first_of, first_unbuilt, unbuilt_line}
-use Rattle.trace_run.proofs.Threads.{one_of}
+use Rattle.trace_run.specs.Runs.{first_of, first_unbuilt, unbuilt_line}
+use Rattle.trace_run.proofs.Threads.{IsSound, one_of}
 
 -- where the smaller one of two lines is none, there is neither
 neither : (line other : Option ℕ) → first_of line other ≡ None → (line ≡ None) × (other ≡ None)

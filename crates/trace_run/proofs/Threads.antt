@@ -1,5 +1,5 @@
 -- What holds of each thread that a text spells: its group is low, and its calls have the data that they name.
-use Rattle.std.proofs.Common.{◌≡◌, ℕ, ℤ, pos, negsuc, true, List, [], ◌∷◌, Some, None, sym, subst, arith, inl, inr}
+use Rattle.std.proofs.Common.{◌≡◌, ℕ, ◌<◌, ℤ, pos, negsuc, true, List, [], ◌∷◌, Some, None, sym, subst, arith, inl, inr}
 use Rattle.std.specs.Prelude.{unsigned_abs, slice_get}
 use Rattle.std.specs.List.{All}
 use Rattle.std.proofs.lemmas.Bool.{eqb-true}
@@ -15,7 +15,11 @@ use Rattle.trace_text.specs.declared.phase.Phase.TheVariants as phase
 use Rattle.trace_text.specs.Limits.{has_its_length, is_size}
 use Rattle.trace_text.specs.Reading.{Plan, State, at_start}
 use Rattle.trace_text.specs.Traces.{IsLine, IsPhaseLine, IsBodyLine, IsCallLine, AreLines, Spells}
-use Rattle.trace_run.specs.Runs.{IsSound}
+
+-- a thread of a group from 0 to 7, whose calls have the data that they name
+pub record IsSound (thread : Plan) : Type 0 where
+  pub low : thread.group < 8
+  pub its_data : All (λ line. HasItsData line.call) thread.lines
 
 is_size-true : (size : ℤ) (len : ℕ) → is_size size len ≡ true → len ≡ unsigned_abs size
 is_size-true (pos n) len e = sym (eqb-true n len e)

@@ -1,16 +1,13 @@
 -- What becomes of a world that is led through a schedule, and closed.
-use Rattle.std.specs.Prelude.{◌≡◌, ℕ, ◌<◌, ◌≤◌, List, ◌++◌, length, map, None, Some}
+use Rattle.std.specs.Prelude.{◌≡◌, ℕ, ◌<◌, ◌≤◌, List, ◌++◌, length, None, Some}
 use Rattle.vk_device.specs.Journal.{kind_of}
 use Rattle.back_core.specs.Frame.{IsGoing, host_bytes}
 use Rattle.back_core.specs.Run.{journal_of}
 use Rattle.trace_text.specs.Reading.{Plan}
-use Rattle.play_model.specs.Plays.{Play, HasEnded}
+use Rattle.play_model.specs.Plays.{HasEnded}
 use Rattle.world_core.specs.World.{WorldModel, play_of, due_in}
-use Rattle.schedule.specs.Moves.{Move, schedule, callers_of_group}
-
--- the calls of each group were made in the order of these moves, and no others
-abbrev pub AreCalls : List Plan → List Move → Play → Type 0
-AreCalls threads moves play = (group : ℕ) → map (λ e. e.thread) (play.histories group) ≡ callers_of_group threads group moves
+use Rattle.schedule.specs.Moves.{Move, schedule}
+use Rattle.trace_run.specs.Runs.{AreCalls}
 
 -- A world of these threads was led through the whole schedule of this seed, and closed.
 pub record WasLed {D : Type 0} (threads : List Plan) (seed : ℕ) (w : WorldModel D) : Type 0 where

@@ -1,5 +1,6 @@
 -- What a run of the program does with its source, its sink and its device.
-use Rattle.std.specs.Prelude.{◌≡◌, ◌≢◌, ◌⊎◌, ℕ, ◌<◌, ◌≤◌, List, [], ◌∷◌, ◌++◌, length, take, codes, Bool, true, false, Option, Some, None, Err}
+use Rattle.std.specs.Prelude.{◌≡◌, ◌≢◌, ◌⊎◌, ℕ, ◌<◌, ◌≤◌, List, [], ◌∷◌, ◌++◌, length, take, codes, Bool, true, false}
+use Rattle.std.specs.Prelude.{Option, Some, None, Err}
 use Rattle.std.specs.Fmt.{decimal}
 use Rattle.std.specs.Io.KnownBytes.{Appends, Consumes, IsAtEnd}
 use Rattle.trace_io.specs.declared.status.Status.{Status}
@@ -9,6 +10,8 @@ use Rattle.faults.specs.Faults.{Rose}
 use Rattle.command_line.specs.declared.command.Command.{Command}
 use Rattle.command_line.specs.declared.command.Command.TheVariants.{Once, Gen}
 use Rattle.command_line.specs.Commands as commands
+use Rattle.trace_text.specs.declared.stop.ParseStop.{ParseStop}
+use Rattle.trace_text.specs.declared.stop.ParseStop.TheVariants as stops
 use Rattle.trace_text.specs.Reading.{Plan, trace_of}
 use Rattle.trace_text.specs.Traces.{Spells}
 use Rattle.reply_text.specs.declared.history.GroupHistory.{GroupHistory}
@@ -150,6 +153,11 @@ pub data IsRefusedAt (text : List ℕ) (line kind : ℕ) : Type 0 where
   fault : trace_of text ≡ Err (record { line = line; kind = kind }) → IsRefusedAt text line kind
   unbuilt : (threads : List Plan) → Spells text threads → first_unbuilt threads ≡ Some line → kind ≡ kind_of_unbuilt →
       IsRefusedAt text line kind
+
+-- why a text is not served: it is refused at a line, or memory ran out
+abbrev pub StopsAt : List ℕ → ParseStop → Type 0
+StopsAt text stops.Memory = Unit {0}
+StopsAt text (stops.Fault line kind) = IsRefusedAt text line kind
 
 -- more than 67,108,864 bytes came, where the source is read
 abbrev pub IsTooLong : Output → Option (List ℕ) → Option (List ℕ) → Type 0

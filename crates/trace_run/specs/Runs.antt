@@ -1,7 +1,5 @@
 -- What a run answers: the traces that are served, and the replies to them.
 use Rattle.std.specs.Prelude.{◌≡◌, ℕ, ◌<◌, ◌≤◌, min, List, [], ◌∷◌, ◌++◌, length, map, Option, Some, None, if◌then◌else◌}
-use Rattle.std.specs.List.{All}
-use Rattle.gl_model.specs.Sizes.{HasItsData}
 use Rattle.vk_device.specs.declared.logged.Logged.{Logged}
 use Rattle.vk_device.specs.Journal.{kind_of}
 use Rattle.back_core.specs.declared.back_event.BackEvent.{BackEvent}
@@ -33,12 +31,11 @@ abbrev pub first_unbuilt : List Plan → Option ℕ
 first_unbuilt [] = None
 first_unbuilt (thread ∷ threads) = first_of (unbuilt_line thread.lines) (first_unbuilt threads)
 
--- a thread of a group from 0 to 7, whose calls have the data that they name
-pub record IsSound (thread : Plan) : Type 0 where
-  pub low : thread.group < 8
-  pub its_data : All (λ line. HasItsData line.call) thread.lines
-
 -- What is answered
+
+-- the calls of each group were made in the order of these moves, and no others
+abbrev pub AreCalls : List Plan → List Move → Play → Type 0
+AreCalls threads moves play = (group : ℕ) → map (λ e. e.thread) (play.histories group) ≡ callers_of_group threads group moves
 
 -- The histories of the declared groups, each legal and with its threads' lines in order, where the calls were made in the order of these
 -- moves.
@@ -46,7 +43,7 @@ pub record AreReplies (threads : List Plan) (moves : List Move) (groups : List G
   pub play : Play
   pub played : HasPlayed threads play
   pub histories : AreHistories threads play groups
-  pub calls : (group : ℕ) → map (λ e. e.thread) (play.histories group) ≡ callers_of_group threads group moves
+  pub calls : AreCalls threads moves play
 
 -- the replies to all lines, in the order of the schedule of this seed
 pub record AnswersAll (threads : List Plan) (seed : ℕ) (groups : List GroupHistory) : Type 0 where

@@ -1,6 +1,5 @@
 // The commands `once` and `gen`, from the words to the status.
 ghost use Rattle.std.specs.Prelude.{◌≡◌, ◌≢◌, ◌≤◌, ◌<◌, ◌⊎◌, ◌↔◌, ℕ, Bool, IsTrue, List, [], length, map, Some, None, false, IfOk, IfErr, MatchOption};
-ghost use Rattle.std.specs.List.{All};
 ghost use Rattle.std.specs.String.{string_bytes};
 ghost use Rattle.std.specs.Io.KnownBytes.{Appends};
 ghost use Rattle.faults.specs.Faults.{Rose};
@@ -10,9 +9,11 @@ ghost use Rattle.command_line.specs.declared.command.Command.{Command};
 ghost use Rattle.command_line.specs.Commands as commands;
 ghost use Rattle.trace_text.specs.Reading.{Plan, plan};
 ghost use Rattle.trace_text.specs.Traces.{Spells};
-ghost use Rattle.trace_text.specs.Orders.{IsTrace};
-ghost use Rattle.trace_run.specs.Runs.{IsSound, first_unbuilt};
-ghost use Rattle.trace_run.specs.Once.{SpellsOnce, SpellsGen, IsServed, Names, IsBrought, Gives, Answered, WasLost, WasCutOff, MayAnswer, MayRefuse, MayRefuseLong, Refused, IsRefusedAt, IsSaid, IsUnread, command_for, text_of_number, usage_line};
+ghost use Rattle.world_core.specs.World as world;
+ghost use Rattle.trace_run.specs.Runs.{first_unbuilt};
+ghost use Rattle.trace_run.specs.Once.{SpellsOnce, SpellsGen, IsServed, Names, IsBrought, Gives, Answered, WasLost, WasCutOff};
+ghost use Rattle.trace_run.specs.Once.{MayAnswer, MayRefuse, MayRefuseLong, Refused, IsRefusedAt, StopsAt, IsSaid, IsUnread};
+ghost use Rattle.trace_run.specs.Once.{command_for, text_of_number, usage_line};
 
 use crate::built;
 use crate::run::run;
@@ -113,21 +114,31 @@ fn trace_in<S: Source>(
     output: Output,
 ) -> Result<Trace, Said>
     ensures gives { IfOk result (λ trace. Gives seed output (S.left source.old) (S.left source.new) (map plan trace.threads.items)) }
-    ensures sound { IfOk result (λ trace. All IsSound (map plan trace.threads.items)) }
-    ensures ordered { IfOk result (λ trace. IsTrace (map plan trace.threads.items)) }
+    ensures served { IfOk result (λ trace. world.IsServed (map plan trace.threads.items)) }
     ensures unread { IfErr result
         (λ said. IsUnread seed output (S.left source.old) (S.left source.new) (S.faults source.old) (S.faults source.new) said) }
     ensures untouched { output ≡ Output.SummaryAlone → source.new ≡ source.old }
 {
-    traces_are_in_order();
     let text = text_in(alloc, source, seed, output)?;
-    let trace = match parse(alloc, &text) {
-        Ok(trace) => trace,
-        Err(ParseStop::Fault { line, kind }) => return Err(Said::Refused { line, kind }),
-        Err(ParseStop::Memory) => return Err(Said::Memory),
-    };
+    match served_trace(alloc, &text) {
+        Ok(trace) => Ok(trace),
+        Err(ParseStop::Fault { line, kind }) => Err(Said::Refused { line, kind }),
+        Err(ParseStop::Memory) => Err(Said::Memory),
+    }
+}
+
+/// The trace that a text spells, if each of its calls is built: a world may be made of it. The kinds of fault are those of `parse`, and 10
+/// at the first line whose call is not built.
+pub fn served_trace(alloc: Global, text: &[u8]) -> Result<Trace, ParseStop>
+    ensures spelled { IfOk result (λ trace. Spells text.now (map plan trace.threads.items)) }
+    ensures built { IfOk result (λ trace. first_unbuilt (map plan trace.threads.items) ≡ None) }
+    ensures served { IfOk result (λ trace. world.IsServed (map plan trace.threads.items)) }
+    ensures refused { IfErr result (λ stop. StopsAt text.now stop) }
+{
+    traces_are_in_order();
+    let trace = parse(alloc, text)?;
     match built::first_unbuilt(&trace.threads) {
-        Some(line) => Err(Said::Refused {
+        Some(line) => Err(ParseStop::Fault {
             line,
             kind: UNBUILT,
         }),

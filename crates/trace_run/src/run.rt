@@ -1,13 +1,10 @@
 // The calls of a trace, answered over a device.
-ghost use Rattle.std.specs.Prelude.{◌≡◌, [], map, true, None, IfOk, OnOk, OnErr};
-ghost use Rattle.std.specs.List.{All};
+ghost use Rattle.std.specs.Prelude.{◌≡◌, [], map, true, IfOk, OnOk, OnErr};
 ghost use Rattle.vk_device.specs.Faults.{HasCause};
 ghost use Rattle.vk_device.specs.Journal.{IsClean};
 ghost use Rattle.trace_text.specs.Reading.{plan};
-ghost use Rattle.trace_text.specs.Orders.{IsTrace};
 ghost use Rattle.play_model.specs.Plays.{opening_play};
-ghost use Rattle.world_core.specs.World.{play_of};
-ghost use Rattle.trace_run.specs.Runs.{IsSound, first_unbuilt};
+ghost use Rattle.world_core.specs.World.{IsServed, play_of};
 ghost use Rattle.trace_run.specs.Led.{WasLed, WasLedOn};
 ghost use Rattle.trace_run.specs.Once.{IsRunOf, shown_of, tail_of};
 
@@ -30,9 +27,7 @@ pub(crate) fn run<D: Device>(
     output: Output,
 ) -> (Said, D)
     requires empty { D.journal device ≡ [] }
-    requires built { first_unbuilt (map plan trace.threads.items) ≡ None }
-    requires sound { All IsSound (map plan trace.threads.items) }
-    requires ordered { IsTrace (map plan trace.threads.items) }
+    requires served { IsServed (map plan trace.threads.items) }
     ensures said { IsRunOf (map plan trace.threads.items) seed output (D.faults device) (D.faults result.1) (D.journal result.1) result.0 }
     ensures clean { IsClean (D.journal result.1) }
 {

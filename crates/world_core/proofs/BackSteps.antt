@@ -4,7 +4,9 @@ use Rattle.std.proofs.Common.{subst, arith}
 use Rattle.std.specs.List.{All}
 use Rattle.std.proofs.lemmas.List.{append-nil}
 use Rattle.std.proofs.lemmas.List.Elements.{All-nil, All-push, All-weaker}
+use Rattle.std.specs.Prelude.{Result, Err}
 use Rattle.vk_types.specs.declared.stops.Stop.{Stop}
+use Rattle.vk_types.specs.declared.stops.Stop.TheVariants.{Lost, Memory}
 use Rattle.vk_types.specs.declared.batches.QueueSerial.{QueueSerial}
 use Rattle.vk_device.specs.declared.logged.Turned.{Turned}
 use Rattle.vk_device.specs.declared.logged.Turned.TheVariants as turned
@@ -132,3 +134,8 @@ well_cleaned going write h k read count is whole = record {
 pub leaves_halted : Apart → (h k : List BackEvent) (stop : Stop) → HasStopped h k stop → LeavesGroups h k
 leaves_halted laws h k stop halted = leaves_then h halted.before k (leaves_batches laws h halted.before halted.gone_on)
     (leaves_stop laws halted.before k stop halted.is)
+
+-- a stop that is no want of memory
+pub is_lost : {A : Type 0} (r : Result A Stop) (stop : Stop) → r ≡ Err stop → r ≢ Err Memory → stop ≡ Lost
+is_lost r Lost is ne = refl
+is_lost r Memory is ne = absurd (ne is)

@@ -1,8 +1,8 @@
 -- A thread's next line was answered, or its front was stopped.
 use Rattle.std.proofs.Common.{◌≡◌, ◌≢◌, ℕ, ◌+◌, ◌≤◌, ◌<◌, Bool, true, false, List, [], ◌∷◌, ◌++◌, length, get_or, map, Some, refl, sym}
 use Rattle.std.proofs.Common.{ap, ◌∙◌, subst, arith, eq-eqb}
-use Rattle.std.specs.Prelude.{Option, None, Result, Ok, Err, OnOk, OnErr, is_ok, is_err, Contains, IsTrue, ◌↔◌, slice_get, slice_set}
-use Rattle.std.specs.Option.{option_map, option_map_or}
+use Rattle.std.specs.Prelude.{Option, None, Result, Ok, Err, IfOk, OnOk, OnErr, is_ok, is_err, Contains, IsTrue, ◌↔◌, slice_get, slice_set}
+use Rattle.std.specs.Option.{option_map}
 use Rattle.std.proofs.Math.Dec.{eqb}
 use Rattle.std.proofs.lemmas.Option.{slice_get-map, slice_get_within}
 use Rattle.std.proofs.lemmas.List.{length-map}
@@ -18,19 +18,21 @@ use Rattle.trace_text.specs.declared.trace.Line.{Line}
 use Rattle.trace_text.specs.Reading.{Plan, plan}
 use Rattle.trace_text.specs.Orders.{IsLineOf, IsTrace}
 use Rattle.back_core.specs.declared.back_event.BackEvent.{BackEvent}
-use Rattle.back_core.specs.History.{completed, link_of}
+use Rattle.back_core.specs.History.{link_of}
 use Rattle.back_core.specs.Frame.{AtBack, GoesOn, host_bytes}
 use Rattle.back_core.specs.Run.{journal_of}
 use Rattle.back_core.specs.Back.{BackModel}
 use Rattle.back_core.specs.Steps.{CleansWhole}
 use Rattle.front_moves.specs.Core.{face}
-use Rattle.front_core.specs.Economy.{MayHandOver, IsEndingBatch, due_of, due_over, may_wait, waits_of}
+use Rattle.front_core.specs.Economy.{MayHandOver, IsEndingBatch, due_of, due_over, waits_of}
+use Rattle.front_core.specs.Share.{HasOrigin, is_map_read}
+use Rattle.front_core.specs.Polls.{Polls, Flushes}
 use Rattle.front_core.specs.Front.{FrontModel, HasAnswered, HasStopped, IsClosed}
 use Rattle.play_model.specs.Plays.{Play, Plays, HasPlayed, HasEnded, MayPlay, IsReady, members, entry_on}
-use Rattle.world_core.specs.World.{history_at, play_at, group_numbers, due_in}
-use Rattle.world_core.specs.Steps.{HasCalled}
-use Rattle.world_core.specs.Inside.{AreNoted, AreFronts, Keeps, MayAsk, Runs, Replaces, HasAsked, HasBroken, HasClosedOne, world_of}
-use Rattle.world_core.specs.Inside.{played_of, histories_of, follows}
+use Rattle.world_core.specs.World.{history_at, histories_of, play_at, group_numbers, due_in}
+use Rattle.world_core.specs.Steps.{Replaces, HasAsked, HasCalled, HasBroken}
+use Rattle.world_core.specs.Ends.{HasClosedOne}
+use Rattle.world_core.specs.Inside.{AreNoted, AreFronts, Keeps, MayAsk, Runs, world_of, played_of, follows}
 use Rattle.world_core.proofs.Laws.{Apart, GoOnStanding}
 use Rattle.world_core.proofs.Lists.{read_at, same_at, get_set, history_is, history_other, same_histories, number_at}
 use Rattle.world_core.proofs.Dues.{DuesGrow, due_grown, front_due}
@@ -47,18 +49,11 @@ pub record CallLaws : Type 0 where
   pub plays : (threads : List Plan) (p q : Play) (thread : ℕ) → IsTrace threads → HasPlayed threads p → Plays threads p q thread →
       HasPlayed threads q
 
-waits_off : {X : Type 0} (o : Option X) (b : Bool) → b ≡ false → option_map_or (λ x. false) o b ≡ false
-waits_off None b off = off
-waits_off (Some x) b off = refl
-
-some_same : {X : Type 0} (a b : X) → Some a ≡ Some b → a ≡ b
-some_same a b e = cc
-
 module _ (laws : CallLaws) (threads : List Plan) (done : List ℕ) (answered : List Bool) (fronts new : List FrontModel)
     (h k : List BackEvent) (thread place : ℕ) (line : Line)
     (keeps : Keeps threads done answered fronts h true) (at : slice_get done thread ≡ Some place) (is : IsLineOf threads thread place line)
     (ready : IsReady (history_at (histories_of fronts) is.plan.group) line)
-    (asked : HasAsked fronts new h k is.plan.group thread line) where
+    (reply : Reply) (asked : HasAsked fronts new h k is.plan.group thread line reply) where
   g : ℕ
   g = is.plan.group
 
@@ -69,7 +64,7 @@ module _ (laws : CallLaws) (threads : List Plan) (done : List ℕ) (answered : L
   q = played_of (slice_set done thread (place + 1)) new
 
   e : Entry
-  e = entry_on thread line asked.reply
+  e = entry_on thread line reply
 
   is_before : history_at (histories_of fronts) is.plan.group ≡ asked.fronts.before.history
   is_before = history_is fronts is.plan.group asked.fronts.before asked.fronts.had
@@ -81,8 +76,8 @@ module _ (laws : CallLaws) (threads : List Plan) (done : List ℕ) (answered : L
       (get_set fronts is.plan.group asked.fronts.before asked.fronts.after asked.fronts.had)
 
   grown : history_at (histories_of new) is.plan.group ≡ history_at
-      (histories_of fronts) is.plan.group ++ entry_on thread line asked.reply ∷ []
-  grown = is_after ∙ asked.answered.history ∙ ap (λ (l : List Entry). l ++ entry_on thread line asked.reply ∷ []) (sym is_before)
+      (histories_of fronts) is.plan.group ++ entry_on thread line reply ∷ []
+  grown = is_after ∙ asked.answered.history ∙ ap (λ (l : List Entry). l ++ entry_on thread line reply ∷ []) (sym is_before)
 
   others : (group : ℕ) → group ≢ is.plan.group → history_at (histories_of new) group ≡ history_at (histories_of fronts) group
   others group ne = ap (λ (l : List FrontModel). history_at (histories_of l) group) asked.fronts.has
@@ -94,7 +89,7 @@ module _ (laws : CallLaws) (threads : List Plan) (done : List ℕ) (answered : L
   pub plays : Plays threads (played_of done fronts) (played_of (slice_set done thread (place + 1)) new) thread
   plays = record {
     may = record { line = line; next = record { place = place; at = at; is = is }; ready = ready };
-    reply = asked.reply;
+    reply = reply;
     history = grown;
     others = others;
     legal = subst (λ (l : List ℕ). IsLegal l (history_at (histories_of new) is.plan.group)) (asked.answered.threads ∙ threads_were)
@@ -120,7 +115,7 @@ module _ (laws : CallLaws) (threads : List Plan) (done : List ℕ) (answered : L
       (history_at (histories_of fronts) is.plan.group) + due_of asked.fronts.before.state thread line.call
       = ap (due_over (members threads is.plan.group)) grown
       ∙ front_due laws.dues asked.fronts.before (link_of h is.plan.group) (members threads is.plan.group)
-      (history_at (histories_of fronts) is.plan.group) (entry_on thread line asked.reply)
+      (history_at (histories_of fronts) is.plan.group) (entry_on thread line reply)
       (runs.goes.stand is.plan.group asked.fronts.before asked.fronts.had) threads_were is_before in
       omega (arith, same)
 
@@ -159,7 +154,7 @@ module _ (laws : CallLaws) (threads : List Plan) (done : List ℕ) (answered : L
         (played_of (slice_set done thread (place + 1)) new) thread keeps.served.trace keeps.played plays;
     noted = noted_more threads keeps.served.trace (played_of done fronts)
         (played_of (slice_set done thread (place + 1)) new) answered keeps.noted thread place line is
-        (entry_on thread line asked.reply) refl grown others;
+        (entry_on thread line reply) refl grown others;
     fronts_are = fronts_replaced fronts new h k is.plan.group asked.fronts laws.apart threads goes asked.answered.threads
         (stands_own asked.fronts.after (link_of k is.plan.group) asked.answered.stands) keeps.fronts_are;
     runs = λ on. record {
@@ -177,13 +172,8 @@ module _ (laws : CallLaws) (threads : List Plan) (done : List ℕ) (answered : L
     threads = refl;
     running = refl;
     plays = plays;
-    at_back = subst (λ (i : List BackEvent). GoesOn is.plan.group (Some i) (Some now.history)) (sym was)
-        (subst (λ (i : List BackEvent). GoesOn is.plan.group (Some h) (Some i)) (sym is_now) goes);
-    still = λ off.
-        let same : completed k ≡ completed h
-        = some_same (completed k) (completed h)
-        (asked.at_back.still (waits_off (refusal asked.fronts.before.state thread line.call) (may_wait line.call) off)) in
-        ap completed is_now ∙ same ∙ ap completed (sym was);
+    asked = subst (λ (i : List BackEvent). HasAsked fronts new i now.history is.plan.group thread line reply) (sym was)
+        (subst (λ (i : List BackEvent). HasAsked fronts new h i is.plan.group thread line reply) (sym is_now) asked);
   }
 
 -- The front was stopped
@@ -219,21 +209,45 @@ module _ (law : (h : List BackEvent) (g : ℕ) → (link_of h g).group ≡ g) (f
       AtBack (link_of h g) (link_of k n) (Some h) (Some k) due waits stops MayHand → n ≡ g
   group_is at_back = sym (law k n) ∙ at_back.group ∙ law h g
 
-  pub asked_from : (thread : ℕ) (line : Line) (reply : Reply) → HasAnswered before after (link_of k n) thread line.number line.call reply →
+  asked_from : (thread : ℕ) (line : Line) (reply : Reply) → HasAnswered before after (link_of k n) thread line.number line.call reply →
+      (is_map_read line.call ≡ true → refusal before.state thread line.call ≡ None → HasOrigin (link_of h g) (link_of k n) reply) →
+      (refusal before.state thread line.call ≡ None → Polls before.syncs (link_of h g) (link_of k n) line.call reply) →
+      (refusal before.state thread line.call ≡ None →
+      Flushes before.state before.serials before.syncs thread line.call (face after.core) (link_of k n) reply) →
       AtBack (link_of h g) (link_of k n) (Some h) (Some k) (due_of before.state thread line.call)
       (waits_of before.state thread line.call) false
       (MayHandOver (face before.core) before.state before.serials before.syncs thread line.call) →
-      HasAsked fronts (slice_set fronts i after) h k g thread line
-  asked_from thread line reply answered at_back = record {
-    fronts = replaces;
-    reply = reply;
-    answered = subst (λ (m : ℕ). HasAnswered before after (link_of k m) thread line.number line.call reply) (group_is at_back) answered;
-    at_back = subst (λ (m : ℕ). AtBack (link_of h g) (link_of k m) (Some h) (Some k) (due_of before.state thread line.call)
-        (waits_of before.state thread line.call) false
-        (MayHandOver (face before.core) before.state before.serials before.syncs thread line.call)) (group_is at_back) at_back;
-  }
+      HasAsked fronts (slice_set fronts i after) h k g thread line reply
+  asked_from thread line reply answered origin polls flushes at_back =
+      let to_group : n ≡ g = group_is at_back in
+      record {
+        fronts = replaces;
+        answered = subst (λ (m : ℕ). HasAnswered before after (link_of k m) thread line.number line.call reply) to_group answered;
+        at_back = subst (λ (m : ℕ). AtBack (link_of h g) (link_of k m) (Some h) (Some k) (due_of before.state thread line.call)
+            (waits_of before.state thread line.call) false
+            (MayHandOver (face before.core) before.state before.serials before.syncs thread line.call)) to_group at_back;
+        origin = λ reads accepted. subst (λ (m : ℕ). HasOrigin (link_of h g) (link_of k m) reply) to_group (origin reads accepted);
+        polls = λ accepted. subst (λ (m : ℕ). Polls before.syncs (link_of h g) (link_of k m) line.call reply) to_group (polls accepted);
+        flushes = λ accepted.
+            subst (λ (m : ℕ). Flushes before.state before.serials before.syncs thread line.call (face after.core) (link_of k m) reply)
+            to_group (flushes accepted);
+      }
 
-  pub broken_from : {due : ℕ} {waits stops : Bool} {MayHand : Batch → Type 0} → HasStopped before after (link_of k n) →
+  pub ask_ok : (thread : ℕ) (line : Line) (r : Result Reply Stop) →
+      IfOk r (λ reply. HasAnswered before after (link_of k n) thread line.number line.call reply) →
+      IfOk r (λ reply. is_map_read line.call ≡ true → refusal before.state thread line.call ≡ None →
+      HasOrigin (link_of h g) (link_of k n) reply) →
+      IfOk r (λ reply. refusal before.state thread line.call ≡ None → Polls before.syncs (link_of h g) (link_of k n) line.call reply) →
+      IfOk r (λ reply. refusal before.state thread line.call ≡ None →
+      Flushes before.state before.serials before.syncs thread line.call (face after.core) (link_of k n) reply) →
+      AtBack (link_of h g) (link_of k n) (Some h) (Some k) (due_of before.state thread line.call)
+      (waits_of before.state thread line.call) (is_err r)
+      (MayHandOver (face before.core) before.state before.serials before.syncs thread line.call) →
+      IfOk r (λ reply. HasAsked fronts (slice_set fronts i after) h k g thread line reply)
+  ask_ok thread line (Ok reply) answered origin polls flushes at_back = asked_from thread line reply answered origin polls flushes at_back
+  ask_ok thread line (Err stop) answered origin polls flushes at_back = tt
+
+  broken_from : {due : ℕ} {waits stops : Bool} {MayHand : Batch → Type 0} → HasStopped before after (link_of k n) →
       AtBack (link_of h g) (link_of k n) (Some h) (Some k) due waits stops MayHand → HasBroken fronts (slice_set fronts i after) h k g
   broken_from stopped at_back = record {
     fronts = replaces;
@@ -241,12 +255,14 @@ module _ (law : (h : List BackEvent) (g : ℕ) → (link_of h g).group ≡ g) (f
     at_back = subst (λ (m : ℕ). GoesOn m (Some h) (Some k)) (law h g) at_back.goes_on;
   }
 
-  pub closed_from : IsClosed before after (link_of k n) → AtBack (link_of h g) (link_of k n) (Some h) (Some k) 0 false false (IsEndingBatch before.syncs) →
+  closed_from : IsClosed before after (link_of k n) →
+      AtBack (link_of h g) (link_of k n) (Some h) (Some k) 0 false false (IsEndingBatch before.syncs) →
       HasClosedOne fronts (slice_set fronts i after) h k g
   closed_from closed at_back = record {
     fronts = replaces;
     closed = subst (λ (m : ℕ). IsClosed before after (link_of k m)) (group_is at_back) closed;
-    at_back = subst (λ (m : ℕ). AtBack (link_of h g) (link_of k m) (Some h) (Some k) 0 false false (IsEndingBatch before.syncs)) (group_is at_back) at_back;
+    at_back = subst (λ (m : ℕ). AtBack (link_of h g) (link_of k m) (Some h) (Some k) 0 false false (IsEndingBatch before.syncs))
+        (group_is at_back) at_back;
   }
 
   pub close_ok : {A : Type 0} (r : Result A Stop) → OnOk r (IsClosed before after (link_of k n)) →
@@ -255,11 +271,12 @@ module _ (law : (h : List BackEvent) (g : ℕ) → (link_of h g).group ≡ g) (f
   close_ok (Ok a) closed at_back = closed_from closed at_back
   close_ok (Err stop) closed at_back = tt
 
-  pub close_err : {A : Type 0} (r : Result A Stop) → OnErr r (HasStopped before after (link_of k n)) →
-      AtBack (link_of h g) (link_of k n) (Some h) (Some k) 0 false (is_err r) (IsEndingBatch before.syncs) →
+  pub stop_err : {A : Type 0} {due : ℕ} {waits : Bool} {MayHand : Batch → Type 0} (r : Result A Stop) →
+      OnErr r (HasStopped before after (link_of k n)) →
+      AtBack (link_of h g) (link_of k n) (Some h) (Some k) due waits (is_err r) MayHand →
       OnErr r (HasBroken fronts (slice_set fronts i after) h k g)
-  close_err (Ok a) stopped at_back = tt
-  close_err (Err stop) stopped at_back = broken_from stopped at_back
+  stop_err (Ok a) stopped at_back = tt
+  stop_err (Err stop) stopped at_back = broken_from stopped at_back
 
 pub on_err : {A E : Type 0} {P : Type 0} (r : Result A E) → P → OnErr r P
 on_err (Ok a) p = tt

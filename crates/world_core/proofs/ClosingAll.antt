@@ -1,6 +1,6 @@
 -- How all fronts are closed, one after the other, and what that leaves.
 use Rattle.std.proofs.Common.{◌≡◌, ◌≢◌, ℕ, suc, zero, ◌+◌, ◌≤◌, ◌<◌, Bool, true, false, List, [], ◌∷◌, ◌++◌, length, Some, refl, sym, ap}
-use Rattle.std.proofs.Common.{◌∙◌, subst, arith, eq-eqb, inl, inr}
+use Rattle.std.proofs.Common.{◌∙◌, subst, arith, eq-eqb, inl, inr, add-one}
 use Rattle.std.specs.Prelude.{◌⊎◌, IsSome, Option, slice_get}
 use Rattle.std.proofs.Math.Dec.{eqb}
 use Rattle.std.proofs.lemmas.Bool.{eqb-true, false≢true, cases_lt}
@@ -19,7 +19,10 @@ use Rattle.back_core.specs.Frame.{GoesOn, IsGoing, host_bytes}
 use Rattle.back_core.specs.Run.{journal_of}
 use Rattle.back_core.specs.Steps.{CleansWhole, IsIdle, IsAllGiven}
 use Rattle.front_core.specs.Front.{FrontModel, FrontStands}
-use Rattle.world_core.specs.Inside.{AreFronts, Goes, AreClosed, LeavesNothing, LeavesGroups, HasClosedOne, HasBroken, histories_of}
+use Rattle.world_core.specs.World.{histories_of}
+use Rattle.world_core.specs.Steps.{HasBroken}
+use Rattle.world_core.specs.Ends.{CloseFirst, HasClosedOne}
+use Rattle.world_core.specs.Inside.{AreFronts, Goes, AreClosed, LeavesNothing, LeavesGroups}
 use Rattle.world_core.proofs.Laws.{Apart, GoOnStanding}
 use Rattle.world_core.proofs.Lists.{same_histories}
 use Rattle.world_core.proofs.Fronts.{each_front, fronts_replaced, learned_beside}
@@ -35,6 +38,16 @@ pub record Closing (before fronts : List FrontModel) (h k : List BackEvent) (cou
   pub written : host_bytes (journal_of k) ≡ host_bytes (journal_of h)
   pub are : (threads : List Plan) → AreFronts threads h before → AreFronts threads k fronts
   pub histories : histories_of fronts ≡ histories_of before
+  pub closes : CloseFirst count before h fronts k
+
+none_closed : (fronts : List FrontModel) (h : List BackEvent) → CloseFirst 0 fronts h fronts h
+unfolding CloseFirst
+none_closed fronts h = (refl, refl)
+
+one_more_closed : (count : ℕ) (before fronts new : List FrontModel) (h i k : List BackEvent) → CloseFirst count before h fronts i →
+    HasClosedOne fronts new i k count → CloseFirst (suc count) before h new k
+unfolding CloseFirst
+one_more_closed count before fronts new h i k closes did = (fronts, i, closes, did)
 
 pub closing_begins : (fronts : List FrontModel) (h : List BackEvent) → length fronts ≡ 8 → Goes fronts h → Closing fronts fronts h h 0
 closing_begins fronts h eight goes = record {
@@ -47,6 +60,7 @@ closing_begins fronts h eight goes = record {
   written = refl;
   are = λ threads are. are;
   histories = refl;
+  closes = none_closed fronts h;
 }
 
 -- what was left stays so where the group only learns
@@ -98,6 +112,8 @@ module _ (laws : ClosingLaws) (before fronts new : List FrontModel) (h i k : Lis
         (was.are threads are);
     histories = ap histories_of did.fronts.has
         ∙ same_histories fronts count did.fronts.before did.fronts.after did.fronts.had did.closed.history ∙ was.histories;
+    closes = subst (λ (n : ℕ). CloseFirst n before h new k) (sym (add-one count))
+        (one_more_closed count before fronts new h i k was.closes did);
   }
     where
       goes : GoesOn count (Some i) (Some k)
@@ -140,6 +156,10 @@ closing_ends before fronts h k count all closing =
     by : (group : ℕ) → (group < 8) ⊎ (8 ≤ group) → LeavesNothing (link_of k group)
     by group (inl low) = closing.nothing group (omega (arith, low, all))
     by group (inr high) = nothing_unused k group (closing.no_others group high)
+
+pub all_closed : (before fronts : List FrontModel) (h k : List BackEvent) (count : ℕ) → count ≡ 8 → Closing before fronts h k count →
+    CloseFirst 8 before h fronts k
+all_closed before fronts h k count all closing = subst (λ (n : ℕ). CloseFirst n before h fronts k) all closing.closes
 
 -- In an idle back the uses of what was given are completed
 

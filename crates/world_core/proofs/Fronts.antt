@@ -1,25 +1,28 @@
 -- The fronts where the back went on, and where one front changed.
 use Rattle.std.proofs.Common.{◌≡◌, ◌≢◌, ℕ, ◌+◌, ◌≤◌, ◌<◌, Bool, true, false, List, [], ◌∷◌, ◌++◌, length, Some, None, refl, sym, ap, ◌∙◌}
-use Rattle.std.proofs.Common.{subst, arith, eq-eqb}
-use Rattle.std.specs.Prelude.{Option, Result, Ok, Err, OnOk, IfSome, is_ok, slice_get}
+use Rattle.std.proofs.Common.{get_or, subst, arith, eq-eqb, inl, inr}
+use Rattle.std.specs.Prelude.{◌⊎◌, Result, Ok, Err, OnOk, is_ok, slice_get}
+use Rattle.std.proofs.lemmas.Option.{slice_get_cases}
 use Rattle.std.proofs.lemmas.Bool.{eqb-true, false≢true}
 use Rattle.std.proofs.lemmas.List.{length-set}
 use Rattle.std.proofs.Math.Dec.{eqb}
 use Rattle.trace_text.specs.Reading.{Plan}
 use Rattle.back_core.specs.declared.back_event.BackEvent.{BackEvent}
-use Rattle.back_core.specs.Link.{Link, Asked}
+use Rattle.back_core.specs.Link.{Link}
 use Rattle.back_core.specs.Answers.{Learns}
 use Rattle.back_core.specs.History.{completed, link_of, own_part, opening}
 use Rattle.back_core.specs.Frame.{GoesOn, IsGoing, host_bytes}
 use Rattle.back_core.specs.Run.{journal_of}
 use Rattle.back_core.specs.Steps.{CleansWhole}
-use Rattle.front_model.specs.Face.{Object, Stored, Waiting, Face}
-use Rattle.front_model.specs.Stands.{no_hands, StagingStands, WaitingStands, StoredOwned, Owns, Holds, Owner}
+use Rattle.front_model.specs.Stands.{no_hands, Owns, BarriersAreLicensed}
+use Rattle.front_model.proofs.Learning.{learned_owns}
+use Rattle.front_model.proofs.Needs.{holds_owns}
 use Rattle.front_moves.specs.Core.{face}
 use Rattle.front_core.specs.Front.{FrontModel, FrontStands}
 use Rattle.play_model.specs.Plays.{Play, members}
 use Rattle.world_core.specs.World.{due_in}
-use Rattle.world_core.specs.Inside.{IsFrontOf, AreFronts, Goes, Runs, Keeps, LeavesGroups, StaysWell, Replaces, played_of}
+use Rattle.world_core.specs.Steps.{Replaces}
+use Rattle.world_core.specs.Inside.{IsFrontOf, AreFronts, Goes, Runs, Keeps, LeavesGroups, StaysWell, played_of}
 use Rattle.world_core.proofs.Laws.{Apart, GoOnStanding}
 use Rattle.world_core.proofs.Lists.{get_set, get_set_other, same_at}
 
@@ -38,37 +41,19 @@ learned h k g same rises = record {
 pub learned_of : (h k : List BackEvent) (g : ℕ) → LeavesGroups h k → Learns (link_of h g) (link_of k g)
 learned_of h k g leaves = learned h k g (leaves.own g) leaves.rises
 
--- whose a handle is rests on what is held alone
-owned_still : (objects : Object → Option Stored) (s : Link) (d : ℕ → ℕ) (n : Option (ℕ → ℕ)) (a : Option Asked) → Owns objects s →
-    Owns objects (record s { done = d; now = n; asked = a })
-owned_still objects s d n a owns = record {
-  owner = owns.owner;
-  each = λ o b at. let u : StoredOwned s owns.owner o b = owns.each o b at in
-      record { held = u.held; owned = u.owned; waiting = u.waiting };
-}
-
-pub owns_still : (objects : Object → Option Stored) (s t : Link) → Owns objects s → Learns s t → Owns objects t
-owns_still objects s t owns learns = subst (Owns objects) (sym learns.rest) (owned_still objects s t.done t.now t.asked owns)
-
-staging_of : (f : Face) (s : Link) (owner : ℕ → Owner) (o : Object) (handle place id : ℕ) (w : Waiting) → w.staging ≡ Some id →
-    WaitingStands f s owner o handle place w → StagingStands f s owner o place id
-staging_of f s owner o handle place id w is stands = subst
-    (λ (staging : Option ℕ). IfSome staging (StagingStands f s owner o place)) is stands.staging
-
-holds_own : (f : Face) (s : Link) → Holds f no_hands s → Owns f.objects s
-holds_own f s h = record {
-  owner = h.owner;
-  each = λ o b at. record {
-    held = (h.objects o b at).slot.held;
-    owned = (h.objects o b at).owned;
-    waiting = λ place id w waits is. let v = staging_of f s h.owner o b.handle place id w is
-        ((h.objects o b at).waiting place w waits) in (v.held, v.owned);
-  };
-}
-
 -- a front that stands holds what it has
 pub stands_own : (f : FrontModel) (s : Link) → FrontStands f s → Owns (face f.core).objects s
-stands_own f s stands = holds_own (face f.core) s stands.stands.holds
+stands_own f s stands = holds_owns (face f.core) no_hands s stands.stands.holds
+
+-- each of the eight groups has a front, and so its barriers were licensed
+pub fronts_license : (threads : List Plan) (h : List BackEvent) (fronts : List FrontModel) → AreFronts threads h fronts →
+    (group : ℕ) → group < 8 → BarriersAreLicensed (link_of h group)
+fronts_license threads h fronts are group low = by (slice_get_cases fronts group).1
+  where
+    by : ((front : FrontModel) × (group < length fronts) × (slice_get fronts group ≡ Some front) × (get_or fronts group front ≡ front))
+        ⊎ ((length fronts ≤ group) × (slice_get fronts group ≡ None)) → BarriersAreLicensed (link_of h group)
+    by (inl found) = (are.each group found.0 found.2).owns.licensed
+    by (inr past) = let eight = are.eight in let high = past.0 in absurd (omega (arith, eight, high, low))
 
 -- The back went on
 
@@ -78,7 +63,7 @@ fronts_left threads h k fronts leaves are = record {
   eight = are.eight;
   each = λ g f at. let u : IsFrontOf threads h g f = are.each g f at in record {
     threads_are = u.threads_are;
-    owns = owns_still (face f.core).objects (link_of h g) (link_of k g) u.owns (learned_of h k g leaves);
+    owns = learned_owns (face f.core).objects (link_of h g) (link_of k g) u.owns (learned_of h k g leaves);
   };
 }
 
@@ -163,7 +148,7 @@ module _ (fronts new : List FrontModel) (h k : List BackEvent) (g : ℕ) (is : R
         (record { threads_are = same ∙ (are.each g is.before is.had).threads_are; owns = owns })
         (λ other f ne at. let u : IsFrontOf threads h other f = are.each other f at in record {
           threads_are = u.threads_are;
-          owns = owns_still (face f.core).objects (link_of h other) (link_of k other) u.owns (learned_beside laws h k g other goes ne);
+          owns = learned_owns (face f.core).objects (link_of h other) (link_of k other) u.owns (learned_beside laws h k g other goes ne);
         });
   }
 

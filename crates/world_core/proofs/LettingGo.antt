@@ -19,12 +19,12 @@ use Rattle.back_core.specs.Run.{IsRun, journal_of}
 use Rattle.back_core.specs.Answers.{Learns}
 use Rattle.back_core.specs.History.{link_of}
 use Rattle.front_model.specs.Stands.{Owns}
+use Rattle.front_model.proofs.Learning.{learned_owns}
 use Rattle.front_moves.specs.Core.{face}
 use Rattle.front_core.specs.Front.{FrontModel}
-use Rattle.world_core.specs.World.{group_numbers, is_declared, declared, history_at}
-use Rattle.world_core.specs.Inside.{LetsGo, OwnTheirs, histories_of}
+use Rattle.world_core.specs.World.{group_numbers, is_declared, declared, history_at, histories_of}
+use Rattle.world_core.specs.Inside.{LetsGo, OwnTheirs}
 use Rattle.world_core.proofs.Lists.{number_at, history_is}
-use Rattle.world_core.proofs.Fronts.{owns_still}
 
 -- the fronts of the first groups, so many, were let go, and their histories are kept
 pub record Letting (threads : List Plan) (all left : List FrontModel) (h k : List BackEvent) (ended : List GroupHistory)
@@ -137,7 +137,7 @@ module _ (threads : List Plan) (all left rest : List FrontModel) (h i k : List B
   letting_more first rest_is lets others of entries b declared is = record {
     rest = rest_is ∙ ap (drop 1) was.rest ∙ drop_next all count ∙ ap (λ (n : ℕ). drop n all) (sym (add-one count));
     some = subst (λ (l : List FrontModel). length l + (count + 1) ≡ 8) (sym rest_is) (drop_shorter left count was.some low);
-    owns = λ group f at high. owns_still (face f.core).objects (link_of i group) (link_of k group)
+    owns = λ group f at high. learned_owns (face f.core).objects (link_of i group) (link_of k group)
         (was.owns group f at (omega (arith, high)))
         (others group (λ same. absurd (omega (arith, same, high))));
     lets = lets_then h i k was.lets lets;
@@ -200,6 +200,6 @@ pub rest_own : (all rest : List FrontModel) (front : FrontModel) (h k : List Bac
     ((other : ℕ) → other ≢ n → Learns (link_of h other) (link_of k other)) → OwnTheirs rest k
 rest_own all rest front h k n is count owns others group f at =
     let low = slice_get_within rest group f at in
-    owns_still (face f.core).objects (link_of h group) (link_of k group)
+    learned_owns (face f.core).objects (link_of h group) (link_of k group)
     (owns group f (ap (λ (l : List FrontModel). slice_get l group) is ∙ front_at rest front f group at))
     (others group (λ same. absurd (omega (arith, same, count, low))))

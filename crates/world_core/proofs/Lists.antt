@@ -5,8 +5,7 @@ use Rattle.std.specs.Option.{option_map}
 use Rattle.std.proofs.lemmas.Option.{slice_get-map, slice_get_read}
 use Rattle.gl_calls.specs.declared.reply.Entry.{Entry}
 use Rattle.front_core.specs.Front.{FrontModel}
-use Rattle.world_core.specs.World.{history_at, group_numbers}
-use Rattle.world_core.specs.Inside.{histories_of}
+use Rattle.world_core.specs.World.{history_at, histories_of, group_numbers}
 
 pub get_set : {X : Type 0} (xs : List X) (i : ℕ) (x y : X) → slice_get xs i ≡ Some x → slice_get (slice_set xs i y) i ≡ Some y
 get_set [] i x y at = absurd (cc)

@@ -25,8 +25,8 @@ use Rattle.front_model.specs.Stands.{Owns}
 use Rattle.front_moves.specs.Core.{face}
 use Rattle.front_core.specs.Front.{FrontModel, FrontStands, IsNewFront}
 use Rattle.play_model.specs.Plays.{Play, HasPlayed, none_done, members, opening_play, is_answered}
-use Rattle.world_core.specs.World.{WorldModel, new_world, IsServed, history_at, play_at, group_numbers, due_in}
-use Rattle.world_core.specs.Inside.{AreNew, OwnTheirs, AreFronts, Goes, Keeps, histories_of, played_of, world_of}
+use Rattle.world_core.specs.World.{IsNewWorld, AreNew, IsServed, history_at, histories_of, play_at, due_in}
+use Rattle.world_core.specs.Inside.{OwnTheirs, AreFronts, Goes, Keeps, played_of, world_of}
 use Rattle.world_core.proofs.Lists.{read_at}
 use Rattle.world_core.proofs.Fronts.{stands_own}
 
@@ -142,25 +142,6 @@ new_history threads fronts new group = ap (λ (o : Option (List Entry)). unwrap_
     by None at = refl
     by (Some front) at = (new group front at).empty
 
-pub new_histories : (threads : List Plan) (fronts : List FrontModel) → length fronts ≡ 8 → AreNew threads fronts →
-    histories_of fronts ≡ map (λ group. []) group_numbers
-new_histories threads (a ∷ b ∷ c ∷ d ∷ e ∷ f ∷ g ∷ h ∷ []) eight new =
-    eight_same (new 0 a refl).empty (new 1 b refl).empty (new 2 c refl).empty (new 3 d refl).empty (new 4 e refl).empty
-    (new 5 f refl).empty (new 6 g refl).empty (new 7 h refl).empty
-  where
-    eight_same : {p q r s t u v w : List Entry} → p ≡ [] → q ≡ [] → r ≡ [] → s ≡ [] → t ≡ [] → u ≡ [] → v ≡ [] → w ≡ [] →
-        p ∷ q ∷ r ∷ s ∷ t ∷ u ∷ v ∷ w ∷ [] ≡ [] ∷ [] ∷ [] ∷ [] ∷ [] ∷ [] ∷ [] ∷ [] ∷ []
-    eight_same i j k l m n o x = cc
-new_histories threads [] eight new = absurd (omega (arith, eight))
-new_histories threads (a ∷ []) eight new = absurd (omega (arith, eight))
-new_histories threads (a ∷ b ∷ []) eight new = absurd (omega (arith, eight))
-new_histories threads (a ∷ b ∷ c ∷ []) eight new = absurd (omega (arith, eight))
-new_histories threads (a ∷ b ∷ c ∷ d ∷ []) eight new = absurd (omega (arith, eight))
-new_histories threads (a ∷ b ∷ c ∷ d ∷ e ∷ []) eight new = absurd (omega (arith, eight))
-new_histories threads (a ∷ b ∷ c ∷ d ∷ e ∷ f ∷ []) eight new = absurd (omega (arith, eight))
-new_histories threads (a ∷ b ∷ c ∷ d ∷ e ∷ f ∷ g ∷ []) eight new = absurd (omega (arith, eight))
-new_histories threads (a ∷ b ∷ c ∷ d ∷ e ∷ f ∷ g ∷ h ∷ i ∷ more) eight new = absurd (omega (arith, eight))
-
 -- The first moment
 
 none_written : (n : ℕ) → host_bytes [] ≤ n
@@ -170,6 +151,14 @@ none_written n = omega arith
 abbrev play_with : List ℕ → (ℕ → List Entry) → Play
 play_with d hs = record { done = d; histories = hs }
 
+-- nothing was played yet
+opens : (threads : List Plan) (done : List ℕ) (fronts : List FrontModel) → done ≡ none_done threads → AreNew threads fronts →
+    played_of done fronts ≡ opening_play threads
+opens threads done fronts none new =
+    let histories : (λ group. history_at (histories_of fronts) group) ≡ (λ group. []) = fun_ext (new_history threads fronts new) in
+    ap (λ (d : List ℕ). play_at d (histories_of fronts)) none
+    ∙ ap (λ (hs : ℕ → List Entry). play_with (none_done threads) hs) histories
+
 module _ (links : NewLinks) (whole : CleansWhole []) (going : IsGoing (Some [])) (opening : journal_of [] ≡ [])
     (plays : (threads : List Plan) → HasPlayed threads (opening_play threads)) where
   begins_empty : (threads : List Plan) (done : List ℕ) (answered : List Bool) (fronts : List FrontModel) → IsServed threads →
@@ -177,10 +166,7 @@ module _ (links : NewLinks) (whole : CleansWhole []) (going : IsGoing (Some []))
       ((thread place : ℕ) (line : Line) → IsLineOf threads thread place line → slice_get answered line.number ≡ Some false) →
       length fronts ≡ 8 → AreNew threads fronts → Keeps threads done answered fronts [] true
   begins_empty threads done answered fronts served none unanswered eight new =
-      let histories : (λ group. history_at (histories_of fronts) group) ≡ (λ group. []) = fun_ext (new_history threads fronts new) in
-      let same : opening_play threads ≡ played_of done fronts
-      = ap (λ (hs : ℕ → List Entry). play_with (none_done threads) hs) (sym histories)
-      ∙ ap (λ (d : List ℕ). play_at d (histories_of fronts)) (sym none) in
+      let same : opening_play threads ≡ played_of done fronts = sym (opens threads done fronts none new) in
       record {
         served = served;
         played = subst (HasPlayed threads) same (plays threads);
@@ -217,19 +203,19 @@ module _ (links : NewLinks) (whole : CleansWhole []) (going : IsGoing (Some []))
       subst (λ (i : List BackEvent). Keeps threads done answered fronts i true) (sym empty)
       (begins_empty threads done answered fronts served none unanswered eight new)
 
--- the world is the one that a trace begins with
-
-abbrev world_with : {D : Type 0} → List Plan → List ℕ → List (List Entry) → BackModel D → WorldModel D
-world_with threads done histories back = record { threads = threads; done = done; histories = histories; back = back; running = true }
-
-pub new_world_is : {D : Type 0} (threads : List Plan) (done : List ℕ) (fronts : List FrontModel) (back : BackModel D) (device : D) →
+-- the world is one that a trace begins with
+pub is_new_world : {D : Type 0} (threads : List Plan) (done : List ℕ) (fronts : List FrontModel) (back : BackModel D) (device : D) →
     done ≡ none_done threads → length fronts ≡ 8 → AreNew threads fronts → back ≡ record { device = device; history = [] } →
-    world_of threads done fronts back true ≡ new_world threads device
-new_world_is {D} threads done fronts back device none eight new is =
-    ap (λ (d : List ℕ). world_of threads d fronts back true) none
-    ∙ ap (λ (b : BackModel D). world_of threads (none_done threads) fronts b true) is
-    ∙ ap (λ (hs : List (List Entry)). world_with threads (none_done threads) hs (record { device = device; history = [] }))
-    (new_histories threads fronts eight new)
+    IsNewWorld threads device (world_of threads done fronts back true)
+is_new_world threads done fronts back device none eight new is = record {
+  threads_are = refl;
+  done = none;
+  eight = eight;
+  new = new;
+  back = is;
+  running = refl;
+  play = opens threads done fronts none new;
+}
 
 pub ok_of : {A E : Type 0} {P : Type 0} (r : Result A E) → is_err r ≡ false → OnOk r P → P
 ok_of (Ok a) well p = p

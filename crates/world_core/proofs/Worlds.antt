@@ -3,10 +3,11 @@ use Rattle.std.proofs.Common.{◌≡◌, ℕ, ◌≤◌, ◌<◌, Bool, true, fa
 use Rattle.std.specs.Prelude.{Result, Ok, Err, IfOk, IfErr, OnOk, OnErr, is_ok}
 use Rattle.std.specs.List.{All}
 use Rattle.vk_types.specs.declared.stops.Stop.{Stop}
+use Rattle.vk_types.specs.declared.stops.Stop.TheVariants.{Lost}
 use Rattle.reply_text.specs.declared.history.GroupHistory.{GroupHistory}
 use Rattle.vk_device.specs.declared.logged.Logged.{Logged}
 use Rattle.vk_device.specs.Faults.{HasCause}
-use Rattle.vk_device.specs.Journal.{kind_of}
+use Rattle.vk_device.specs.Journal.{kind_of, IsClean}
 use Rattle.gl_calls.specs.declared.reply.Entry.{Entry}
 use Rattle.trace_text.specs.Reading.{Plan}
 use Rattle.back_core.specs.Frame.{IsGoing, host_bytes}
@@ -17,67 +18,39 @@ use Rattle.front_core.specs.Front.{FrontModel}
 use Rattle.world_core.specs.declared.event.Event.{Event}
 use Rattle.world_core.specs.declared.event.Event.TheVariants as event
 use Rattle.world_core.specs.declared.event.Stepped.{Stepped}
-use Rattle.world_core.specs.declared.event.Stepped.TheVariants.{Done, Nothing, NotReady, Ended}
-use Rattle.world_core.specs.World.{WorldModel, IsLawful, AreHistories, declared, history_at, play_at, play_of, due_in}
-use Rattle.world_core.specs.Steps.{IsAtBack, IsStep, IsHalt, HasHalted, HasFailed}
-use Rattle.world_core.specs.Ends.{HasClosed, HasFinished}
-use Rattle.world_core.specs.Inside.{Keeps, LetsGo, world_of, histories_of, HasSubmitted, HasTurned, HasRetired, HasCleaned}
+use Rattle.world_core.specs.World.{WorldModel, IsLawful, AreHistories, declared, history_at, histories_of, play_at, play_of, due_in}
+use Rattle.world_core.specs.Steps.{IsAtBack, IsStep, IsHalt, HasHalted, HasFailed, HasSubmitted, HasTurned, HasRetired, HasCleaned}
+use Rattle.world_core.specs.Ends.{EndsAll, HasClosed, HasFinished}
+use Rattle.world_core.specs.Inside.{Keeps, LetsGo, world_of}
+use Rattle.world_core.proofs.Fronts.{fronts_license}
 
 module _ {D : Type 0} (journal : D → List Logged) (threads : List Plan) (done : List ℕ) (fronts : List FrontModel)
     (back now : BackModel D) (running : Bool)
     (old : WorldModel D) (is : world_of threads done fronts back running ≡ old) where
   at_back : IsAtBack (world_of threads done fronts back running) (world_of threads done fronts now true)
-  at_back = record { threads = refl; play = refl; running = refl }
-
-  submit_did : (s : Stepped) → HasSubmitted back.history now.history s →
-      IsStep journal (world_of threads done fronts back running) (world_of threads done fronts now true) event.Submit s
-  submit_did Done did = (at_back, did)
-  submit_did Nothing did = (at_back, did)
-  submit_did NotReady did = did
-  submit_did Ended did = did
+  at_back = record { threads = refl; done = refl; fronts = refl; running = refl }
 
   pub submit_step : (r : Result Stepped Stop) → IfOk r (λ s. HasSubmitted back.history now.history s) →
       IfOk r (λ s. IsStep journal old (world_of threads done fronts now (is_ok r)) event.Submit s)
   submit_step (Ok s) did = subst (λ (w : WorldModel D). IsStep journal w (world_of threads done fronts now true) event.Submit s) is
-      (submit_did s did)
+      (at_back, did)
   submit_step (Err e) did = tt
-
-  turn_did : (s : Stepped) → HasTurned back.history now.history s →
-      IsStep journal (world_of threads done fronts back running) (world_of threads done fronts now true) event.Turn s
-  turn_did Done did = (at_back, did)
-  turn_did Nothing did = (at_back, did)
-  turn_did NotReady did = did
-  turn_did Ended did = did
 
   pub turn_step : (r : Result Stepped Stop) → IfOk r (λ s. HasTurned back.history now.history s) →
       IfOk r (λ s. IsStep journal old (world_of threads done fronts now (is_ok r)) event.Turn s)
   turn_step (Ok s) did = subst (λ (w : WorldModel D). IsStep journal w (world_of threads done fronts now true) event.Turn s) is
-      (turn_did s did)
+      (at_back, did)
   turn_step (Err e) did = tt
-
-  retire_did : (s : Stepped) → running ≡ true → HasRetired back now s →
-      IsStep journal (world_of threads done fronts back running) (world_of threads done fronts now running) event.Retire s
-  retire_did Done on did = (record { threads = refl; play = refl; running = on }, did)
-  retire_did Nothing on did = (ap (λ (b : BackModel D). world_of threads done fronts b running) did.0, did.1)
-  retire_did NotReady on did = did
-  retire_did Ended on did = did
 
   pub retire_step : (s : Stepped) → running ≡ true → HasRetired back now s →
       IsStep journal old (world_of threads done fronts now running) event.Retire s
   retire_step s on did = subst (λ (w : WorldModel D). IsStep journal w (world_of threads done fronts now running) event.Retire s) is
-      (retire_did s on did)
-
-  clean_did : (read : List ℕ) (s : Stepped) → HasCleaned journal back now read s →
-      IsStep journal (world_of threads done fronts back running) (world_of threads done fronts now true) (event.Cleanup read) s
-  clean_did read Done did = (at_back, did)
-  clean_did read Nothing did = did
-  clean_did read NotReady did = did
-  clean_did read Ended did = did
+      (record { threads = refl; done = refl; fronts = refl; running = on }, did)
 
   pub clean_step : (read : List ℕ) (r : Result Stepped Stop) → IfOk r (λ s. HasCleaned journal back now read s) →
       IfOk r (λ s. IsStep journal old (world_of threads done fronts now (is_ok r)) (event.Cleanup read) s)
   clean_step read (Ok s) did = subst
-      (λ (w : WorldModel D). IsStep journal w (world_of threads done fronts now true) (event.Cleanup read) s) is (clean_did read s did)
+      (λ (w : WorldModel D). IsStep journal w (world_of threads done fronts now true) (event.Cleanup read) s) is (at_back, did)
   clean_step read (Err e) did = tt
 
   -- a stop
@@ -86,18 +59,20 @@ module _ {D : Type 0} (journal : D → List Logged) (threads : List Plan) (done 
       IfErr r (λ stop. IsHalt journal old (world_of threads done fronts now (is_ok r)) event.Submit stop)
   submit_halt (Ok s) did = tt
   submit_halt (Err stop) did = subst
-      (λ (w : WorldModel D). IsHalt journal w (world_of threads done fronts now false) event.Submit stop) is did
+      (λ (w : WorldModel D). IsHalt journal w (world_of threads done fronts now false) event.Submit stop) is (refl, did)
 
-  pub turn_halt : (r : Result Stepped Stop) → IfErr r (λ stop. now.history ≡ stopped_by back.history stop) →
+  pub turn_halt : (r : Result Stepped Stop) → IfErr r (λ stop. stop ≡ Lost) → IfErr r (λ stop. now.history ≡ stopped_by back.history stop) →
       IfErr r (λ stop. IsHalt journal old (world_of threads done fronts now (is_ok r)) event.Turn stop)
-  turn_halt (Ok s) did = tt
-  turn_halt (Err stop) did = subst (λ (w : WorldModel D). IsHalt journal w (world_of threads done fronts now false) event.Turn stop) is did
+  turn_halt (Ok s) lost did = tt
+  turn_halt (Err stop) lost did = subst
+      (λ (w : WorldModel D). IsHalt journal w (world_of threads done fronts now false) event.Turn stop) is (refl, lost, did)
 
-  pub clean_halt : (read : List ℕ) (r : Result Stepped Stop) → IfErr r (λ stop. CleansSome journal back now read stop) →
+  pub clean_halt : (read : List ℕ) (r : Result Stepped Stop) → IfErr r (λ stop. stop ≡ Lost) →
+      IfErr r (λ stop. CleansSome journal back now read stop) →
       IfErr r (λ stop. IsHalt journal old (world_of threads done fronts now (is_ok r)) (event.Cleanup read) stop)
-  clean_halt read (Ok s) did = tt
-  clean_halt read (Err stop) did = subst
-      (λ (w : WorldModel D). IsHalt journal w (world_of threads done fronts now false) (event.Cleanup read) stop) is did
+  clean_halt read (Ok s) lost did = tt
+  clean_halt read (Err stop) lost did = subst
+      (λ (w : WorldModel D). IsHalt journal w (world_of threads done fronts now false) (event.Cleanup read) stop) is (refl, lost, did)
 
   pub halted : {A : Type 0} (r : Result A Stop) (done_after : List ℕ) (fronts_after : List FrontModel) → OnErr r (done_after ≡ done) →
       OnErr r (histories_of fronts_after ≡ histories_of fronts) →
@@ -128,7 +103,7 @@ module _ {D : Type 0} (journal : D → List Logged) (threads : List Plan) (done 
   call_step on (Err e) thread done_after fronts_after did = tt
 
   pub call_halt : (r : Result Stepped Stop) (thread : ℕ) (done_after : List ℕ) (fronts_after : List FrontModel) →
-      OnErr r (HasFailed threads back.history now.history thread) →
+      OnErr r (HasFailed threads fronts fronts_after back.history now.history thread) →
       IfErr r (λ stop. IsHalt journal old (world_of threads done_after fronts_after now (is_ok r)) (event.Call thread) stop)
   call_halt (Ok s) thread done_after fronts_after did = tt
   call_halt (Err stop) thread done_after fronts_after did =
@@ -155,21 +130,23 @@ module _ {D : Type 0} (journal : D → List Logged) (threads : List Plan) (done 
   -- the end
 
   pub closed_step : {A : Type 0} (r : Result A Stop) (fronts_after : List FrontModel) → histories_of fronts_after ≡ histories_of fronts →
+      OnOk r (EndsAll journal fronts fronts_after back now) →
       OnOk r ((id : ℕ) → kind_of (journal_of now.history) id ≡ None) →
       OnOk r (IsGoing (Some now.history)) → OnOk r (host_bytes (journal_of now.history) ≡ host_bytes (journal_of back.history)) →
       host_bytes (journal_of back.history) ≤ due_in threads (play_at done (histories_of fronts)) →
-      OnOk r (HasClosed old (world_of threads done fronts_after now false))
-  closed_step (Ok a) fronts_after same destroyed going written uploads = subst
-      (λ (w : WorldModel D). HasClosed w (world_of threads done fronts_after now false)) is (record {
+      OnOk r (HasClosed journal old (world_of threads done fronts_after now false))
+  closed_step (Ok a) fronts_after same ends destroyed going written uploads = subst
+      (λ (w : WorldModel D). HasClosed journal w (world_of threads done fronts_after now false)) is (record {
         threads = refl;
         play = ap (play_at done) same;
         running = refl;
+        ends = ends;
         destroyed = destroyed;
         going = going;
         uploads = subst (λ (n : ℕ). n ≤ due_in threads (play_at done (histories_of fronts_after))) (sym written)
             (subst (λ (l : List (List Entry)). host_bytes (journal_of back.history) ≤ due_in threads (play_at done l)) (sym same) uploads);
       })
-  closed_step (Err stop) fronts_after same destroyed going written uploads = tt
+  closed_step (Err stop) fronts_after same ends destroyed going written uploads = tt
 
   pub halted_off : {A : Type 0} (r : Result A Stop) (fronts_after : List FrontModel) → histories_of fronts_after ≡ histories_of fronts →
       OnErr r (HasHalted old (world_of threads done fronts_after now false))
@@ -184,12 +161,16 @@ module _ {D : Type 0} (journal : D → List Logged) (threads : List Plan) (done 
   -- what holds of each world
 
   pub lawful : (answered : List Bool) → Keeps threads done answered fronts back.history running → IsRun back.history →
-      journal back.device ≡ journal_of back.history → IsLawful journal old
-  lawful answered keeps run logged = subst (IsLawful journal) is (record {
+      journal back.device ≡ journal_of back.history → IsClean (journal back.device) → IsLawful journal old
+  lawful answered keeps run logged clean = subst (IsLawful journal) is (record {
     served = keeps.served;
+    eight = keeps.fronts_are.eight;
     played = keeps.played;
     run = run;
     journal_is = logged;
+    clean = clean;
+    licensed = fronts_license threads back.history fronts keeps.fronts_are;
+    stands = λ on. (keeps.runs on).goes.stand;
     going = λ on. (keeps.runs on).goes.going;
     uploads = λ on. subst (λ (l : List Logged). host_bytes l ≤ due_in threads (play_at done (histories_of fronts))) (sym logged)
         (keeps.runs on).uploads;

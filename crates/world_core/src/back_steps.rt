@@ -1,10 +1,12 @@
 // The steps of the back, which leave each group its own part.
 ghost use Rattle.std.specs.Prelude.{◌≡◌, IfOk, IfErr, OnOk};
+ghost use Rattle.vk_types.specs.declared.stops.Stop.TheVariants.{Lost};
 ghost use Rattle.vk_device.specs.Faults.{HasCause};
 ghost use Rattle.back_core.specs.Run.{WereRead};
 ghost use Rattle.back_core.specs.Back.{stopped_by};
 ghost use Rattle.back_core.specs.Steps.{CleansSome};
-ghost use Rattle.world_core.specs.Inside.{LeavesGroups, StaysWell, HasSubmitted, HasTurned, HasRetired, HasCleaned};
+ghost use Rattle.world_core.specs.Steps.{HasSubmitted, HasTurned, HasRetired, HasCleaned};
+ghost use Rattle.world_core.specs.Inside.{LeavesGroups, StaysWell};
 
 use crate::Stepped;
 use back_core::{Back, Step, backs_keep_going, cleanups_stay_whole, groups_are_apart};
@@ -33,6 +35,7 @@ pub(crate) fn turn_next<D: Device>(back: &mut Back<D>) -> Result<Stepped, Stop>
     ensures ok { IfOk result (λ stepped. HasTurned back.old.history back.new.history stepped) }
     ensures well { OnOk result (StaysWell back.old.history back.new.history) }
     ensures err { IfErr result (λ stop. back.new.history ≡ stopped_by back.old.history stop) }
+    ensures lost { IfErr result (λ stop. stop ≡ Lost) }
     ensures leaves { LeavesGroups back.old.history back.new.history }
     ensures cause { HasCause (D.faults back.old.device) (D.faults back.new.device) result }
 {
@@ -67,6 +70,7 @@ pub(crate) fn clean_next<D: Device>(back: &mut Back<D>, read: &[u64; 64]) -> Res
     ensures ok { IfOk result (λ stepped. HasCleaned D.journal back.old back.new read.now stepped) }
     ensures well { OnOk result (StaysWell back.old.history back.new.history) }
     ensures err { IfErr result (λ stop. CleansSome D.journal back.old back.new read.now stop) }
+    ensures lost { IfErr result (λ stop. stop ≡ Lost) }
     ensures leaves { LeavesGroups back.old.history back.new.history }
     ensures cause { HasCause (D.faults back.old.device) (D.faults back.new.device) result }
 {

@@ -1,19 +1,21 @@
 // How a thread makes the call of its next line.
-ghost use Rattle.std.specs.Prelude.{◌≡◌, ◌<◌, ℕ, true, length, map, is_ok, IfOk, IfSome, OnOk, OnErr, slice_get, Some, Contains};
+ghost use Rattle.std.specs.Prelude.{◌≡◌, ◌<◌, ℕ, true, length, map, is_ok, IfOk, IfSome, OnErr, slice_get, Some, Contains};
 ghost use Rattle.vk_device.specs.Faults.{HasCause};
 ghost use Rattle.gl_model.specs.Sizes.{HasItsData};
 ghost use Rattle.trace_text.specs.Reading.{plan};
 ghost use Rattle.front_core.specs.Share.{is_built};
 ghost use Rattle.front_core.specs.Front.{FrontModel};
 ghost use Rattle.world_core.specs.declared.event.Event.TheVariants as event;
-ghost use Rattle.world_core.specs.Steps.{IsStep, HasFailed};
-ghost use Rattle.world_core.specs.Inside.{Keeps, MayAsk, HasAsked, HasBroken, world_of, histories_of, follows};
+ghost use Rattle.world_core.specs.World.{histories_of};
+ghost use Rattle.world_core.specs.Steps.{IsStep, HasAsked, HasBroken, HasFailed};
+ghost use Rattle.world_core.specs.Inside.{Keeps, MayAsk, world_of, follows};
 
 use crate::Stepped;
 use back_core::{
     Direct, backs_keep_going, cleanups_stay_whole, groups_are_apart, what_a_group_sees,
 };
 use front_core::{Front, dues_grow, fronts_go_on_standing};
+use gl_calls::Reply;
 use play_model::plays_go_on;
 use trace_text::{Line, ThreadPlan};
 use vk_device::Device;
@@ -47,7 +49,8 @@ pub(crate) fn call_next<D: Device>(
         (world_of (map plan threads.now) done.new.items fronts.new.items link.new.back true) (event.Call thread) stepped) }
     ensures done { OnErr result (done.new.items ≡ done.old.items) }
     ensures histories { OnErr result (histories_of fronts.new.items ≡ histories_of fronts.old.items) }
-    ensures halt { OnErr result (HasFailed (map plan threads.now) link.old.back.history link.new.back.history thread) }
+    ensures halt { OnErr result
+        (HasFailed (map plan threads.now) fronts.old.items fronts.new.items link.old.back.history link.new.back.history thread) }
     ensures cause { HasCause (D.faults link.old.back.device) (D.faults link.new.back.device) result }
 {
     groups_are_apart();
@@ -70,26 +73,25 @@ pub(crate) fn call_next<D: Device>(
     Ok(Stepped::Done)
 }
 
-// The front of a group answers the call of a line.
+// The front of a group gives its reply to the call of a line.
 fn ask<D: Device>(
     fronts: &mut Vec<Front>,
     link: &mut Direct<D>,
     group: u8,
     thread: u32,
     line: &Line,
-) -> Result<(), Stop>
+) -> Result<Reply, Stop>
     requires low { group < length fronts.old.items }
     requires may { (front : FrontModel) → slice_get fronts.old.items group ≡ Some front → MayAsk front link.old.back.history group thread }
     requires built { is_built line.now.call ≡ true }
     requires its_data { HasItsData line.now.call }
-    ensures ok { OnOk result
-        (HasAsked fronts.old.items fronts.new.items link.old.back.history link.new.back.history group thread line.now) }
+    ensures ok { IfOk result (λ reply.
+        HasAsked fronts.old.items fronts.new.items link.old.back.history link.new.back.history group thread line.now reply) }
     ensures err { OnErr result (HasBroken fronts.old.items fronts.new.items link.old.back.history link.new.back.history group) }
     ensures cause { HasCause (D.faults link.old.back.device) (D.faults link.new.back.device) result }
 {
     what_a_group_sees();
     link.group = group;
     let front = &mut fronts[usize::from(group)];
-    front.call(link, thread, line.number, &line.call)?;
-    Ok(())
+    front.call(link, thread, line.number, &line.call)
 }

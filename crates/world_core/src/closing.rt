@@ -7,7 +7,10 @@ ghost use Rattle.back_core.specs.History.{link_of};
 ghost use Rattle.back_core.specs.Frame.{IsGoing, host_bytes};
 ghost use Rattle.back_core.specs.Run.{journal_of};
 ghost use Rattle.front_core.specs.Front.{FrontModel, FrontStands};
-ghost use Rattle.world_core.specs.Inside.{AreFronts, Goes, AreClosed, HasClosedOne, HasBroken, histories_of};
+ghost use Rattle.world_core.specs.World.{histories_of};
+ghost use Rattle.world_core.specs.Steps.{HasBroken};
+ghost use Rattle.world_core.specs.Ends.{CloseFirst, EndsAll, HasClosedOne};
+ghost use Rattle.world_core.specs.Inside.{AreFronts, Goes, AreClosed};
 
 use crate::world::GROUPS;
 use back_core::{
@@ -24,6 +27,7 @@ pub(crate) fn end_all<D: Device>(fronts: &mut Vec<Front>, link: &mut Direct<D>) 
     ensures fronts { (threads : List Plan) → AreFronts threads link.old.back.history fronts.old.items →
         AreFronts threads link.new.back.history fronts.new.items }
     ensures histories { histories_of fronts.new.items ≡ histories_of fronts.old.items }
+    ensures ends { OnOk result (EndsAll D.journal fronts.old.items fronts.new.items link.old.back link.new.back) }
     ensures destroyed { OnOk result ((id : ℕ) → kind_of (journal_of link.new.back.history) id ≡ None) }
     ensures going { OnOk result (IsGoing (Some link.new.back.history)) }
     ensures written { OnOk result (host_bytes (journal_of link.new.back.history) ≡ host_bytes (journal_of link.old.back.history)) }
@@ -38,13 +42,14 @@ pub(crate) fn end_all<D: Device>(fronts: &mut Vec<Front>, link: &mut Direct<D>) 
     Ok(())
 }
 
-// Closes the fronts of all groups.
+// Closes the fronts of all groups, in rising order.
 fn close_fronts<D: Device>(fronts: &mut Vec<Front>, link: &mut Direct<D>) -> Result<(), Stop>
     requires eight { length fronts.old.items ≡ 8 }
     requires goes { Goes fronts.old.items link.old.back.history }
     ensures fronts { (threads : List Plan) → AreFronts threads link.old.back.history fronts.old.items →
         AreFronts threads link.new.back.history fronts.new.items }
     ensures histories { histories_of fronts.new.items ≡ histories_of fronts.old.items }
+    ensures in_order { OnOk result (CloseFirst 8 fronts.old.items link.old.back.history fronts.new.items link.new.back.history) }
     ensures closed { OnOk result (AreClosed link.new.back.history) }
     ensures written { OnOk result (host_bytes (journal_of link.new.back.history) ≡ host_bytes (journal_of link.old.back.history)) }
     ensures cause { HasCause (D.faults link.old.back.device) (D.faults link.new.back.device) result }

@@ -9,10 +9,10 @@ ghost use Rattle.back_core.specs.Answers.{Learns};
 ghost use Rattle.back_core.specs.History.{link_of};
 ghost use Rattle.front_model.specs.Stands.{Owns};
 ghost use Rattle.front_moves.specs.Core.{face};
-ghost use Rattle.world_core.specs.World.{AreHistories, declared, is_declared, history_at, play_of};
+ghost use Rattle.world_core.specs.World.{AreHistories, declared, is_declared, history_at, histories_of, play_of};
 ghost use Rattle.world_core.specs.Steps.{HasHalted};
 ghost use Rattle.world_core.specs.Ends.{HasClosed, HasFinished};
-ghost use Rattle.world_core.specs.Inside.{OwnTheirs, LetsGo, histories_of};
+ghost use Rattle.world_core.specs.Inside.{OwnTheirs, LetsGo};
 
 use crate::World;
 use crate::closing::end_all;
@@ -30,7 +30,7 @@ impl<D: Device> World<D> {
     /// destroyed. The world does not go on after it.
     pub fn close(&mut self) -> Result<(), Stop>
         requires running { self.old.running ≡ true }
-        ensures ok { OnOk result (HasClosed self.old self.new) }
+        ensures ok { OnOk result (HasClosed D.journal self.old self.new) }
         ensures err { OnErr result (HasHalted self.old self.new) }
         ensures cause { HasCause (D.faults self.old.back.device) (D.faults self.new.back.device) result }
     {

@@ -1,6 +1,7 @@
 // What a world begins with.
 ghost use Rattle.std.specs.Prelude.{◌≡◌, ◌<◌, ◌≤◌, ℕ, [], length, map, IfOk, OnOk, Some, false, slice_get};
-ghost use Rattle.world_core.specs.Inside.{AreNew, OwnTheirs};
+ghost use Rattle.world_core.specs.World.{AreNew};
+ghost use Rattle.world_core.specs.Inside.{OwnTheirs};
 ghost use Rattle.trace_text.specs.Reading.{plan};
 ghost use Rattle.trace_text.specs.declared.trace.Line.{Line};
 ghost use Rattle.trace_text.specs.Orders.{IsLineOf};

@@ -4,7 +4,7 @@ ghost use Rattle.vk_device.specs.Journal.{IsClean};
 ghost use Rattle.back_core.specs.Steps.{AreCompleted};
 ghost use Rattle.trace_text.specs.Reading.{plan};
 ghost use Rattle.play_model.specs.Plays.{MayPlay};
-ghost use Rattle.world_core.specs.World.{IsLawful, IsServed, new_world, play_of};
+ghost use Rattle.world_core.specs.World.{IsLawful, IsNewWorld, IsServed, play_of};
 
 use crate::calling::may_follow;
 use crate::opening::{abandon_all, no_lines, none_answered, open_fronts};
@@ -22,8 +22,8 @@ use vk_device::{Device, devices_stay_in_order};
 /// How many share groups there may be.
 pub(crate) const GROUPS: u8 = 8;
 
-/// The threads of a trace, the front of each group, and the back that the groups share. Contracts see the threads, how far each is and
-/// what each group answered, and the back. A world is to be ended by `finish`.
+/// The threads of a trace, the front of each group, and the back that the groups share. Contracts see the threads, how far each is, the
+/// fronts with what they answered, and the back. A world is to be ended by `finish`.
 pub struct World<D: Device> {
     pub(crate) threads: Vec<ThreadPlan>,
     // How many lines of each thread were answered.
@@ -59,7 +59,7 @@ impl<D: Device> World<D> {
     pub fn new(alloc: Global, trace: Trace, device: D) -> Result<World<D>, D>
         requires empty { D.journal device ≡ [] }
         requires served { IsServed (map plan trace.threads.items) }
-        ensures ok { IfOk result (λ world. world ≡ new_world (map plan trace.threads.items) device) }
+        ensures ok { IfOk result (λ world. IsNewWorld (map plan trace.threads.items) device world) }
         ensures clean { IfErr result (λ back. IsClean (D.journal back)) }
         ensures faults { IfErr result (λ back. D.faults device ≤ D.faults back) }
     {

@@ -1,4 +1,5 @@
-use Rattle.world_core.proofs.BackSteps.{has_turned, leaves_batches, leaves_stop, well_batches}
+use Rattle.std.proofs.lemmas.Result.{err_from_is_err_and}
+use Rattle.world_core.proofs.BackSteps.{is_lost, has_turned, leaves_batches, leaves_stop, well_batches}
 use Rattle.world_core.proofs.back_steps.turn_next.Goals as goal
 
 pub returns-in_err-turn-clause-leaves : goal.returns-in_err-turn-clause-leaves
@@ -10,6 +11,11 @@ returns-in_err-turn-clause-leaves g c =
           c.groups_are_apart.ensures.wrote;
     })
     c.args.back.now.history c.turn.new.self.history _ c.in_err-turn.ensures.err
+
+pub returns-in_err-turn-clause-lost : goal.returns-in_err-turn-clause-lost
+returns-in_err-turn-clause-lost g c =
+    let p = err_from_is_err_and c.from_residual.result c.from_residual.ensures.1 in
+    rw (p.1, p.2) (is_lost c.turn.result c.in_err-turn.field-0.0 c.in_err-turn.was c.turn.ensures.no_memory)
 
 pub returns-in-Ran-clause-leaves : goal.returns-in-Ran-clause-leaves
 returns-in-Ran-clause-leaves g c =

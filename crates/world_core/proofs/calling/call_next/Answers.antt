@@ -143,7 +143,7 @@ returns-in_err-ask-clause-halt g c =
     on_err c.from_residual.result (record {
       plan = plan c.index-threads-number.result;
       is_thread = plan_at c.args.threads.now c.args.thread c.index-threads-number.result c.requires.thread c.index-threads-number.is;
-      at_back = c.in_err-ask.ensures.err.at_back;
+      broken = c.in_err-ask.ensures.err;
     })
 
 pub index_mut-requires : goal.index_mut-requires
@@ -220,7 +220,7 @@ returns-clause-keeps g c =
       plays = c.plays_go_on.ensures.goes_on;
     }) (map plan ts) c.args.done.now.items c.args.answered.now.items c.args.fronts.now.items c.ask.new.fronts.items
     c.args.link.now.back.history c.ask.new.link.back.history c.args.thread c.index.result.now c.in-Some.line.now keeps at is ready
-    c.in_ok-ask.ensures.ok)
+    c.in_ok-ask.field-0 c.in_ok-ask.ensures.ok)
 
 pub returns-clause-ok : goal.returns-clause-ok
 returns-clause-ok g c =
@@ -259,5 +259,5 @@ returns-clause-ok g c =
       plays = c.plays_go_on.ensures.goes_on;
     }) (map plan ts) c.args.done.now.items c.args.answered.now.items c.args.fronts.now.items c.ask.new.fronts.items
     c.args.link.now.back.history c.ask.new.link.back.history c.args.thread c.index.result.now c.in-Some.line.now keeps at is ready
-    c.in_ok-ask.ensures.ok
+    c.in_ok-ask.field-0 c.in_ok-ask.ensures.ok
     c.args.link.now.back c.ask.new.link.back refl refl)

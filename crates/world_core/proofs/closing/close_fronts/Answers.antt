@@ -1,5 +1,5 @@
 use Rattle.std.proofs.Common.{arith}
-use Rattle.world_core.proofs.ClosingAll.{closing_begins, closing_more, closing_ends, broken_are, broken_stays}
+use Rattle.world_core.proofs.ClosingAll.{closing_begins, closing_more, closing_ends, all_closed, broken_are, broken_stays}
 use Rattle.world_core.proofs.closing.close_fronts.Goals as goal
 
 pub loop-group-init : goal.loop-group-init
@@ -70,6 +70,11 @@ returns-clause-closed g c =
     closing_ends c.args.fronts.now.items c.loop-group.fronts.items c.args.link.now.back.history c.loop-group.link.back.history
     c.loop-group.group (omega (arith, c.loop-group-test.false))
     c.loop-group.invariant.closing
+
+pub returns-clause-in_order : goal.returns-clause-in_order
+returns-clause-in_order g c =
+    all_closed c.args.fronts.now.items c.loop-group.fronts.items c.args.link.now.back.history c.loop-group.link.back.history
+    c.loop-group.group (omega (arith, c.loop-group-test.false, c.loop-group.auto.group-end)) c.loop-group.invariant.closing
 
 pub returns-clause-fronts : goal.returns-clause-fronts
 returns-clause-fronts g c = c.loop-group.invariant.closing.are

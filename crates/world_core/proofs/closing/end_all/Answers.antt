@@ -54,6 +54,17 @@ returns-clause-fronts g c = λ threads are.
     }) c.close_fronts.new.link.back.history c.settle_all.new.self.history
     c.in_ok-settle_all.ensures.ok) (c.in_ok-close_fronts.ensures.fronts threads are))
 
+pub returns-clause-ends : goal.returns-clause-ends
+returns-clause-ends g c = record {
+  closed = c.close_fronts.new.link.back.history;
+  fronts = c.in_ok-close_fronts.ensures.in_order;
+  settled = c.settle_all.new.self;
+  gone_on = c.in_ok-settle_all.ensures.ok;
+  idle = c.in_ok-settle_all.ensures.idle;
+  count = c.in_ok-clean_all.field-0;
+  cleans = c.in_ok-clean_all.ensures.ok;
+}
+
 pub returns-clause-destroyed : goal.returns-clause-destroyed
 returns-clause-destroyed g c =
     let closed = c.in_ok-close_fronts.ensures.closed in

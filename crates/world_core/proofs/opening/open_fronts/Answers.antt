@@ -1,7 +1,7 @@
 use Rattle.std.proofs.Common.{[], ◌∷◌, length, map, sym, ap, subst, arith, ◌∙◌, length-append}
 use Rattle.trace_text.specs.Reading.{plan}
 use Rattle.front_core.specs.Front.{IsNewFront}
-use Rattle.world_core.specs.Inside.{AreNew}
+use Rattle.world_core.specs.World.{AreNew}
 use Rattle.world_core.proofs.Starts.{new_more}
 use Rattle.world_core.proofs.opening.open_fronts.Goals as goal
 

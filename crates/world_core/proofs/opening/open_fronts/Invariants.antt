@@ -1,7 +1,7 @@
 use Rattle.std.proofs.Common.{◌≡◌, ◌≤◌, map, length}
 use Rattle.std.specs.Vec.{vec_capacity}
 use Rattle.trace_text.specs.Reading.{plan}
-use Rattle.world_core.specs.Inside.{AreNew}
+use Rattle.world_core.specs.World.{AreNew}
 use Rattle.world_core.proofs.opening.open_fronts.Given as goal
 
 abbrev pub invariant-loop-group : goal.invariant-loop-group

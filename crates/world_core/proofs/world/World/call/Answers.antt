@@ -85,7 +85,8 @@ returns-clause-halt g c =
     c.call_next-answer.new.link.back c.self.inside.running c.args.self.now c.self.view_is c.call_next-answer.result c.args.thread
     c.call_next-answer.new.done.items c.call_next-answer.new.fronts.items
     (subst (λ (l : List ThreadPlan). OnErr c.call_next-answer.result
-    (HasFailed (map plan l) c.self.inside.link.back.history c.call_next-answer.new.link.back.history c.args.thread))
+    (HasFailed (map plan l) c.self.inside.fronts.items c.call_next-answer.new.fronts.items c.self.inside.link.back.history
+    c.call_next-answer.new.link.back.history c.args.thread))
     c.deref.ensures.value c.call_next-answer.ensures.halt))
 
 pub returns-clause-cause : goal.returns-clause-cause

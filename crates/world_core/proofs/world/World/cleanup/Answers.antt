@@ -61,7 +61,7 @@ returns-clause-halt g c =
     (clean_halt g.D.Device.journal
     (map plan c.self.inside.threads.items) c.self.inside.done.items c.self.inside.fronts.items c.self.inside.link.back
     c.clean_next-answer.new.back c.self.inside.running c.args.self.now c.self.view_is c.args.read.now c.clean_next-answer.result
-    c.clean_next-answer.ensures.err)
+    c.clean_next-answer.ensures.lost c.clean_next-answer.ensures.err)
 
 pub returns-clause-cause : goal.returns-clause-cause
 returns-clause-cause g c = cause_step g.D.Device.journal

@@ -29,7 +29,7 @@ returns-clause-ok g c =
     closed_step g.D.Device.journal
     (map plan c.self.inside.threads.items) c.self.inside.done.items c.self.inside.fronts.items c.self.inside.link.back
     c.end_all-answer.new.link.back c.self.inside.running c.args.self.now c.self.view_is c.end_all-answer.result
-    c.end_all-answer.new.fronts.items c.end_all-answer.ensures.histories c.end_all-answer.ensures.destroyed
+    c.end_all-answer.new.fronts.items c.end_all-answer.ensures.histories c.end_all-answer.ensures.ends c.end_all-answer.ensures.destroyed
     c.end_all-answer.ensures.going c.end_all-answer.ensures.written
     (c.self.invariant.0.runs
     (running_on g.D.Device.journal

@@ -7,4 +7,4 @@ pub returns : goal.returns
 returns g c = lawful g.D.Device.journal
     (map plan c.self.inside.threads.items) c.self.inside.done.items c.self.inside.fronts.items c.self.inside.link.back
     c.self.inside.link.back c.self.inside.running c.args.self.now c.self.view_is c.self.inside.answered.items c.self.invariant.0
-    c.is_in_order.ensures.run c.is_in_order.ensures.journal
+    c.is_in_order.ensures.run c.is_in_order.ensures.journal c.is_in_order.ensures.in_order.clean

@@ -4,8 +4,8 @@ use Rattle.trace_text.specs.Reading.{plan}
 use Rattle.trace_text.specs.Orders.{IsLineOf}
 use Rattle.back_core.specs.Back.{BackModel}
 use Rattle.play_model.specs.Plays.{none_done}
-use Rattle.world_core.specs.Inside.{AreNew}
-use Rattle.world_core.proofs.Starts.{new_own, begins, new_world_is, ok_of}
+use Rattle.world_core.specs.World.{AreNew}
+use Rattle.world_core.proofs.Starts.{new_own, begins, is_new_world, ok_of}
 use Rattle.world_core.proofs.world.World.new.Goals as goal
 
 pub abandon_all-requires-clause-owns : goal.abandon_all-requires-clause-owns
@@ -30,7 +30,7 @@ invariant_of-result g c = (
 
 pub returns-clause-ok : goal.returns-clause-ok
 returns-clause-ok g c =
-    new_world_is (map plan c.args.trace.threads.items) c.in-Ok.done.items c.open_fronts.new.fronts.items c.new-link.result.back c.args.device
+    is_new_world (map plan c.args.trace.threads.items) c.in-Ok.done.items c.open_fronts.new.fronts.items c.new-link.result.back c.args.device
     (c.in-Ok.ensures ∙ ap (λ (l : List ThreadPlan). none_done (map plan l)) c.deref.ensures.value)
     (ok_of c.open_fronts.result (sym c.is_err-2.ensures.value ∙ c.if-is_err-2.false) c.open_fronts.ensures.eight)
     (subst (λ (l : List ThreadPlan). AreNew (map plan l) c.open_fronts.new.fronts.items) c.deref-3.ensures.value c.open_fronts.ensures.new)

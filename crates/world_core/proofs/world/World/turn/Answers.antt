@@ -56,7 +56,7 @@ returns-clause-halt g c =
     (turn_halt g.D.Device.journal
     (map plan c.self.inside.threads.items) c.self.inside.done.items c.self.inside.fronts.items c.self.inside.link.back
     c.turn_next-answer.new.back c.self.inside.running c.args.self.now c.self.view_is c.turn_next-answer.result
-    c.turn_next-answer.ensures.err)
+    c.turn_next-answer.ensures.lost c.turn_next-answer.ensures.err)
 
 pub returns-clause-cause : goal.returns-clause-cause
 returns-clause-cause g c = cause_step g.D.Device.journal
