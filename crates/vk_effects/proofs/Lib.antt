@@ -1,0 +1,11 @@
+pub mod Unwritten
+pub mod Columns
+pub mod Outside
+pub mod Discarding
+pub mod Words
+pub mod Passing
+pub mod Blitting
+pub mod RowsDown
+pub mod Examples
+pub mod PastEnds
+pub mod Scaling

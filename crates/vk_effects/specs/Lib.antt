@@ -1,0 +1,4 @@
+pub mod Targets
+pub mod Places
+pub mod Rows
+pub mod Reads
