@@ -1,14 +1,14 @@
-mod Sees
+pub mod Sees
 pub mod Frames
 mod CleanedUp
 mod Uses
 mod Room
-mod Holding
-mod Calls
-mod Numbers
+pub mod Holding
+pub mod Calls
+pub mod Numbers
 mod TakenOut
 mod Cleans
-mod Waiting
+pub mod Waiting
 mod Runs
 mod Lists
 mod Parts
@@ -25,7 +25,7 @@ mod Planned
 mod Layouts
 mod Visible
 mod Agreeing
-mod Going
+pub mod Going
 mod Placed
 mod Journals
 mod Made
@@ -39,8 +39,8 @@ mod Given
 mod Lives
 mod Fits
 mod Meets
-mod Outside
-mod Apart
+pub mod Outside
+pub mod Apart
 mod Whole
 pub mod Losses
 mod EndsClean

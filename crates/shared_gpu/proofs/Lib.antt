@@ -1,0 +1,9 @@
+pub mod Links
+pub mod Words
+pub mod Replies
+pub mod Steps
+pub mod Lost
+pub mod Endings
+pub mod Causes
+pub mod Acting
+pub mod Working

@@ -1,0 +1,18 @@
+use Rattle.std.proofs.Common.{◌≡◌, false, sym, ap, ◌∙◌, refl}
+use Rattle.back_core.specs.Back.{ending_of, is_stopped}
+use Rattle.shared_gpu.proofs.Endings.{first_stop, runs_on}
+use Rattle.back_core.specs.declared.back_event.BackEvent.TheVariants as event
+use Rattle.shared_gpu.proofs.Causes.{cause_reply}
+use Rattle.shared_gpu.proofs.shared.Shared.create.Goals as goal
+
+pub invariant_of-self : goal.invariant_of-self
+invariant_of-self g c =
+    let b = c.self.inside.back in
+    let x = c.create in
+    cause_reply (g.D.Device.faults c.self.inside.opened.value) (g.D.Device.faults b.device) (g.D.Device.faults x.new.self.device) b.history x.new.self.history c.self.invariant x.result (λ id. event.Created c.args.group id c.args.kind) (λ v. refl) x.ensures.cause x.ensures.ok x.ensures.err
+
+pub returns-in-Running-clause-first : goal.returns-in-Running-clause-first
+returns-in-Running-clause-first g c =
+    let h = c.self.inside.back.history in
+    let runs : is_stopped (ending_of h) ≡ false = ap is_stopped (sym c.ending.ensures) ∙ runs_on c.ending.result c.in-Running.is in
+    first_stop h c.create.new.self.history c.create.result runs c.create.ensures.err

@@ -1,0 +1,4 @@
+pub mod Notes
+pub mod Views
+pub mod Seats
+pub mod Turns
