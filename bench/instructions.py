@@ -42,6 +42,30 @@ def fences(calls):
     return trace(1, [f"0 {c}" for _ in range(calls // 4) for c in four])
 
 
+def parts(calls):
+    """Writes of a part into one buffer."""
+    return trace(1, [f"0 {FILL}"] + [f"0 {PART}"] * calls)
+
+
+def mixed(calls):
+    """Stores, a write of a part, a copy, a map and its read, over 200 names."""
+    lines = []
+    for k in range(calls // 9):
+        source, target = k % 200 + 1, (k + 1) % 200 + 1
+        lines += [
+            f"0 bind copy_read {source}",
+            "0 bdata copy_read 8 static_draw 0102030405060708",
+            f"0 bind copy_write {target}",
+            "0 bdata copy_write 8 static_draw 0000000000000000",
+            "0 bsub copy_read 1 aabb",
+            "0 bcopy copy_read copy_write 0 4 4",
+            "0 bmap copy_write 0 8 r",
+            "0 mread copy_write 0 8",
+            "0 bunmap copy_write",
+        ]
+    return trace(1, lines)
+
+
 # name, text, millions of instructions when the figure was taken
 TRACES = [
     ("8,000 calls on stores of one thread", lambda: stores(1, 8000), 97),
@@ -54,6 +78,9 @@ TRACES = [
     ("6,000 of them", lambda: flushed(6000), 64),
     ("2,000 calls on fences", lambda: fences(2000), 7),
     ("20,000 of them", lambda: fences(20000), 67),
+    ("4,000 writes of a part into one buffer", lambda: parts(4000), 58),
+    ("60,000 of them", lambda: parts(60000), 1012),
+    ("9,000 mixed calls over 200 names", lambda: mixed(9000), 76),
 ]
 
 
