@@ -51,56 +51,56 @@ module _ (s0 s1 d0 d1 x : ℕ) (is : IsScaled s0 s1 d0 d1 x) where
   below : x < d1
   below = is.below
 
-  abbrev S0 : ℕ
-  S0 = s0 + origin
+  abbrev source_from : ℕ
+  source_from = s0 + origin
 
-  abbrev S1 : ℕ
-  S1 = s1 + origin
+  abbrev source_to : ℕ
+  source_to = s1 + origin
 
-  abbrev D0 : ℕ
-  D0 = d0 + origin
+  abbrev target_from : ℕ
+  target_from = d0 + origin
 
-  abbrev D1 : ℕ
-  D1 = d1 + origin
+  abbrev target_to : ℕ
+  target_to = d1 + origin
 
   -- by the way to the middle, and the widths of the source and of the destination
   abbrev column : ℕ → ℕ → ℕ → ℕ
-  column way source target = S0 + (way * source) / (2 * target)
+  column way source target = source_from + (way * source) / (2 * target)
 
   by_parts : (way source target way' : ℕ) → way ≡ way' → source ≡ s1 - s0 → target ≡ d1 - d0 → column way source target ≡ s0 + (way' * (s1 - s0)) / (2 * (d1 - d0)) + origin
   by_parts way source target way' e f g =
       ap (λ w. column w source target) e ∙ ap (λ n. column way' n target) f ∙ ap (λ n. column way' (s1 - s0) n) g ∙ omega arith
 
-  scaled_by : (D D' : ℕ) → scaled S0 S1 D D' (x + origin) ≡ column (middle D D' (x + origin)) (S1 - S0) (max D D' - min D D')
-  scaled_by D D' = cond-true (nat_le S0 S1) (column (middle D D' (x + origin)) (S1 - S0) (max D D' - min D D')) _ (le-leb S0 S1 (let w = wide in omega (arith, w)))
+  scaled_by : (D D' : ℕ) → scaled source_from source_to D D' (x + origin) ≡ column (middle D D' (x + origin)) (source_to - source_from) (max D D' - min D D')
+  scaled_by D D' = cond-true (nat_le source_from source_to) (column (middle D D' (x + origin)) (source_to - source_from) (max D D' - min D D')) _ (le-leb source_from source_to (let w = wide in omega (arith, w)))
 
-  upright_middle : middle D0 D1 (x + origin) ≡ 2 * (x - d0) + 1
+  upright_middle : middle target_from target_to (x + origin) ≡ 2 * (x - d0) + 1
   upright_middle =
       let f = from in
       let b = below in
-      cond-true (nat_lt D0 D1) (2 * (x + origin) + 1 - 2 * D0) (2 * D0 - (2 * (x + origin) + 1)) (lt-ltb D0 D1 (omega (arith, f, b)))
+      cond-true (nat_lt target_from target_to) (2 * (x + origin) + 1 - 2 * target_from) (2 * target_from - (2 * (x + origin) + 1)) (lt-ltb target_from target_to (omega (arith, f, b)))
       ∙ omega (arith, f)
 
-  turned_middle : middle D1 D0 (x + origin) ≡ 2 * (d1 - 1 - x) + 1
+  turned_middle : middle target_to target_from (x + origin) ≡ 2 * (d1 - 1 - x) + 1
   turned_middle =
       let f = from in
       let b = below in
-      cond-false (nat_lt D1 D0) (2 * (x + origin) + 1 - 2 * D1) (2 * D1 - (2 * (x + origin) + 1)) (le-ltb D1 D0 (omega (arith, f, b)))
+      cond-false (nat_lt target_to target_from) (2 * (x + origin) + 1 - 2 * target_to) (2 * target_to - (2 * (x + origin) + 1)) (le-ltb target_to target_from (omega (arith, f, b)))
       ∙ omega (arith, b)
 
-  scaled_upright : scaled S0 S1 D0 D1 (x + origin) ≡ upright_column s0 s1 d0 d1 x + origin
+  scaled_upright : scaled source_from source_to target_from target_to (x + origin) ≡ upright_column s0 s1 d0 d1 x + origin
   scaled_upright =
       let w = wide in
       let f = from in
       let b = below in
-      scaled_by D0 D1 ∙ by_parts (middle D0 D1 (x + origin)) (S1 - S0) (max D0 D1 - min D0 D1) (2 * (x - d0) + 1) upright_middle (omega (arith, w)) (omega (arith, f, b))
+      scaled_by target_from target_to ∙ by_parts (middle target_from target_to (x + origin)) (source_to - source_from) (max target_from target_to - min target_from target_to) (2 * (x - d0) + 1) upright_middle (omega (arith, w)) (omega (arith, f, b))
 
-  scaled_turned : scaled S0 S1 D1 D0 (x + origin) ≡ turned_column s0 s1 d0 d1 x + origin
+  scaled_turned : scaled source_from source_to target_to target_from (x + origin) ≡ turned_column s0 s1 d0 d1 x + origin
   scaled_turned =
       let w = wide in
       let f = from in
       let b = below in
-      scaled_by D1 D0 ∙ by_parts (middle D1 D0 (x + origin)) (S1 - S0) (max D1 D0 - min D1 D0) (2 * (d1 - 1 - x) + 1) turned_middle (omega (arith, w)) (omega (arith, f, b))
+      scaled_by target_to target_from ∙ by_parts (middle target_to target_from (x + origin)) (source_to - source_from) (max target_to target_from - min target_to target_from) (2 * (d1 - 1 - x) + 1) turned_middle (omega (arith, w)) (omega (arith, f, b))
 
   upright_is : (size : ℕ) → source_of size (pos s0) (pos s1) (pos d0) (pos d1) x ≡ in_source size (upright_column s0 s1 d0 d1 x + origin)
   upright_is size =
