@@ -1,8 +1,8 @@
-// The store of a buffer.
+// The store of an object.
 ghost use Rattle.std.specs.Prelude.{◌≡◌, ℕ, max, cond, ◌==◌, OnOk, OnErr};
 ghost use Rattle.resource_use.specs.Uses.{number_of, noted};
 ghost use Rattle.barriers.specs.Trackers.{due_by};
-ghost use Rattle.buffer_helper.specs.Buffers.{new_store, access_of, accessed, fenced, heard};
+ghost use Rattle.object_helper.specs.Objects.{new_store, is_image, buffer_size, touch_of, accessed_in, fenced, heard};
 
 use barriers::Tracker;
 use garbage::Garbage;
@@ -10,48 +10,62 @@ use resource_use::ResourceUse;
 use std::alloc::{AllocError, Global};
 use std::marker::Model;
 use std::mem;
-use vk_types::{Access, Barrier, Handle, HandleId, QueueSerial, SerialIndex, Touch};
+use vk_types::{Access, Barrier, Handle, HandleId, Kind, Layout, QueueSerial, SerialIndex, Touch};
 
-/// The store of a buffer: its handle, its size in bytes, the last uses of it, and the tracker that knows which barriers are due.
+/// The store of an object: its handle, its kind, the last uses of it, and the tracker that knows which barriers are due.
 /// It can be neither dropped nor cloned: its handle has to be given away.
 #[derive(Debug)]
-pub struct BufferHelper {
+pub struct ObjectHelper {
     handle: Handle,
-    size: u64,
+    kind: Kind,
     uses: ResourceUse,
     tracker: Tracker,
 }
 
-impl Model for BufferHelper {
-    ghost use Rattle.buffer_helper.specs.Buffers.{BufferStore};
+impl Model for ObjectHelper {
+    ghost use Rattle.object_helper.specs.Objects.{ObjectStore};
 
-    ghost Value = { BufferStore };
+    ghost Value = { ObjectStore };
 
-    ghost view = { λ b. record { handle = b.handle; size = b.size; uses = b.uses; tracker = b.tracker } };
+    ghost view = { λ b. record { handle = b.handle; kind = b.kind; uses = b.uses; tracker = b.tracker } };
 }
 
-/// An access of a whole buffer.
-fn whole(id: HandleId, access: Access) -> Touch
-    ensures { result ≡ access_of id access }
+/// An access of a whole object.
+fn whole(id: HandleId, access: Access, layout: Option<Layout>) -> Touch
+    ensures { result ≡ touch_of id access layout }
 {
     Touch {
         id,
         start: 0,
         end: u64::MAX,
         access,
-        layout: None,
+        layout,
     }
 }
 
-impl BufferHelper {
+/// Whether objects of a kind are images.
+fn is_of_image(kind: Kind) -> bool
+    ensures { result ≡ is_image kind }
+{
+    match kind {
+        Kind::Buffer { size: _ } => false,
+        Kind::Image {
+            format: _,
+            width: _,
+            height: _,
+        } => true,
+    }
+}
+
+impl ObjectHelper {
     /// A store that nothing has used. This takes no memory.
-    pub fn new(alloc: Global, handle: Handle, size: u64) -> BufferHelper
-        ensures { result ≡ new_store handle size }
+    pub fn new(alloc: Global, handle: Handle, kind: Kind) -> ObjectHelper
+        ensures { result ≡ new_store handle kind }
     {
-        let tracker = Tracker::new(handle.id(), false);
-        BufferHelper {
+        let tracker = Tracker::new(handle.id(), is_of_image(kind));
+        ObjectHelper {
             handle,
-            size,
+            kind,
             uses: ResourceUse::new(alloc),
             tracker,
         }
@@ -64,11 +78,25 @@ impl BufferHelper {
         self.handle.id()
     }
 
-    /// The size of the store in bytes.
-    pub fn size(&self) -> u64
-        ensures { result ≡ self.now.size }
+    /// What the store is.
+    pub fn kind(&self) -> Kind
+        ensures { result ≡ self.now.kind }
     {
-        self.size
+        self.kind
+    }
+
+    /// The size of a buffer's store in bytes; that of an image is 0.
+    pub fn size(&self) -> u64
+        ensures { result ≡ buffer_size self.now.kind }
+    {
+        match self.kind {
+            Kind::Buffer { size } => size,
+            Kind::Image {
+                format: _,
+                width: _,
+                height: _,
+            } => 0,
+        }
     }
 
     /// The last uses of the store.
@@ -85,22 +113,23 @@ impl BufferHelper {
         self.uses.number_of(index)
     }
 
-    /// The barrier that is due before nodes access the store so. It and the access are taken in.
-    pub fn plan(&mut self, access: Access) -> Option<Barrier>
-        ensures due { result ≡ due_by self.old.tracker (access_of self.old.handle access) }
-        ensures taken { self.new ≡ accessed access self.old }
+    /// The barrier that is due before nodes access the store so, an image in a layout. It and the access are taken in.
+    pub fn plan(&mut self, access: Access, layout: Option<Layout>) -> Option<Barrier>
+        ensures due { result ≡ due_by self.old.tracker (touch_of self.old.handle access layout) }
+        ensures taken { self.new ≡ accessed_in layout access self.old }
     {
-        let touch = whole(self.handle.id(), access);
+        let touch = whole(self.handle.id(), access, layout);
         let due = self.tracker.before(&touch);
         self.tracker.after(&touch);
         due
     }
 
     /// The barrier that is due before nodes, or the host, access the store so.
-    pub fn due(&self, access: Access) -> Option<Barrier>
-        ensures { result ≡ due_by self.now.tracker (access_of self.now.handle access) }
+    pub fn due(&self, access: Access, layout: Option<Layout>) -> Option<Barrier>
+        ensures { result ≡ due_by self.now.tracker (touch_of self.now.handle access layout) }
     {
-        self.tracker.before(&whole(self.handle.id(), access))
+        self.tracker
+            .before(&whole(self.handle.id(), access, layout))
     }
 
     /// Takes in a barrier of the store.
@@ -127,25 +156,25 @@ impl BufferHelper {
         Ok(())
     }
 
-    /// Gives the buffer another store, which nothing has used, and gives the old one with its uses.
-    pub fn replace(&mut self, alloc: Global, fresh: Handle, size: u64) -> Garbage
-        ensures store { self.new ≡ new_store fresh size }
+    /// Gives the object another store, which nothing has used, and gives the old one with its uses.
+    pub fn replace(&mut self, alloc: Global, fresh: Handle, kind: Kind) -> Garbage
+        ensures store { self.new ≡ new_store fresh kind }
         ensures old { result ≡ record { handle = self.old.handle; uses = self.old.uses } }
     {
-        self.size = size;
-        self.tracker = Tracker::new(fresh.id(), false);
+        self.kind = kind;
+        self.tracker = Tracker::new(fresh.id(), is_of_image(kind));
         let uses = mem::replace(&mut self.uses, ResourceUse::new(alloc));
         let handle = mem::replace(&mut self.handle, fresh);
         Garbage { handle, uses }
     }
 
-    /// Ends the buffer, and gives its store with its uses.
+    /// Ends the object, and gives its store with its uses.
     pub fn into_garbage(self) -> Garbage
         ensures { result ≡ record { handle = self.handle; uses = self.uses } }
     {
-        let BufferHelper {
+        let ObjectHelper {
             handle,
-            size: _,
+            kind: _,
             uses,
             tracker: _,
         } = self;
