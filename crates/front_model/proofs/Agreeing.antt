@@ -25,7 +25,9 @@ use Rattle.gl_model.specs.GroupModel.{GroupModel, Store, Fence}
 use Rattle.gl_model.specs.Effect.{effect, gl_contents, in_context, change_store, store_of, empty_store, map_place}
 use Rattle.gl_model.specs.Legal.{refused, told, signal_fence, says_signalled}
 use Rattle.gl_model.specs.Reached.{changed_images, changed_images_in}
-use Rattle.front_model.specs.Face.{Object, Buffer, Texture, Renderbuffer, put_object}
+use Rattle.front_model.specs.declared.object.Object.{Object}
+use Rattle.front_model.specs.declared.object.Object.TheVariants.{Buffer, Texture, Renderbuffer}
+use Rattle.front_model.specs.Face.{put_object}
 use Rattle.front_model.specs.Wanted.{wanted, AgreeWith, IsAccepted, IsBound, HasBound, HasMapRange, with_bytes, with_copy}
 use Rattle.front_model.proofs.Ranges.{sub_range, copy_range, map_range_of, write_range}
 use Rattle.front_model.proofs.AgreeingCells.{Right, Fades, length-cells, cell_at-defined, Right-with_bytes, Right-with_copy, Fades-overwritten}

@@ -14,7 +14,9 @@ use Rattle.gl_model.specs.GroupModel.{GroupModel, Store}
 use Rattle.gl_model.specs.Effect.{effect, gl_contents, in_context, change_store, store_of, empty_store}
 use Rattle.gl_model.specs.Reached.{before_the_sweep, changed_buffer, changed_images, cells_of, image_exists, texture_of, renderbuffer_of}
 use Rattle.gl_model.proofs.TableLaws.{entry-keyed}
-use Rattle.front_model.specs.Face.{Object, Buffer, Texture, Renderbuffer, put_object}
+use Rattle.front_model.specs.declared.object.Object.{Object}
+use Rattle.front_model.specs.declared.object.Object.TheVariants.{Buffer, Texture, Renderbuffer}
+use Rattle.front_model.specs.Face.{put_object}
 use Rattle.front_model.specs.Wanted.{wanted, AgreeWith}
 use Rattle.front_model.proofs.AgreeingCells.{Right, Fades, Right-gone, Right-same, Right-faded}
 

@@ -7,7 +7,9 @@ use Rattle.std.proofs.lemmas.List.Folds.{list_any-append}
 use Rattle.vk_types.specs.declared.ops.Node.{Node}
 use Rattle.vk_model.specs.Log.{touches_object}
 use Rattle.back_core.specs.Link.{put}
-use Rattle.front_model.specs.Face.{Object, Buffer, Texture, Renderbuffer, same_object, put_object, nodes_touch}
+use Rattle.front_model.specs.declared.object.Object.{Object}
+use Rattle.front_model.specs.declared.object.Object.TheVariants.{Buffer, Texture, Renderbuffer}
+use Rattle.front_model.specs.Face.{same_object, put_object, nodes_touch}
 
 -- A value put at one place
 

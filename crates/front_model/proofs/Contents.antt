@@ -94,10 +94,10 @@ nodes_same_kinds kinds kinds' id same (n ∷ nodes) none c =
 not_here : (kinds : ℕ → Option Kind) (id j : ℕ) (P : Option Kind → Type 0) → (P None → ⊥) → kinds id ≡ None → P (kinds j) → eqb j id ≡ false
 not_here kinds id j P none is p = ne_eqb j id (λ e. none (subst P (ap kinds e ∙ is) p))
 
-one : (a : Bool) → a ≡ false → (a || false) ≡ false
+pub one : (a : Bool) → a ≡ false → (a || false) ≡ false
 one a e = or_from a false e refl
 
-two : (a b : Bool) → a ≡ false → b ≡ false → (a || (b || false)) ≡ false
+pub two : (a b : Bool) → a ≡ false → b ≡ false → (a || (b || false)) ≡ false
 two a b e f = or_from a (b || false) e (one b f)
 
 op_leaves_unmade : (kinds : ℕ → Option Kind) (id : ℕ) → kinds id ≡ None → (o : Op) → OpFits kinds o → list_any (λ t. eqb t.id.0 id) (op_touches o) ≡ false

@@ -17,11 +17,12 @@ use Rattle.vk_model.specs.Log.{commands, IsSound}
 use Rattle.barriers.specs.Licence.{Use, is_licensed, waited_for, layouts_of, layout_now, first_layout, barrier_due}
 use Rattle.barriers.specs.Trackers.{IsTouchOf}
 use Rattle.barriers.specs.Logs.{jointly, uses_in}
-use Rattle.barriers.specs.Recording.{handle, AreUsed, firsts, joint_touches, barrier_node, node_for, due_before, with_due, HasLayouts}
+use Rattle.barriers.specs.Recording.{handle, AreUsed, firsts, joint_touches, barrier_node, node_for, due_before, with_due}
 use Rattle.back_core.specs.Link.{Link}
 use Rattle.front_model.specs.Face.{Face, whole_log}
 use Rattle.front_model.specs.Stands.{is_image_of, uses_of, host_touch}
 use Rattle.front_model.specs.Steps.{KeepsContents, IsBehind, IsOrdered}
+use Rattle.front_model.proofs.Orders.{each-append}
 
 pub ordered : (f : Face) (s : Link) (nodes : List Node) → IsSound (whole_log f s ++ commands 0 nodes)
     × AreUsed (is_image_of s) (whole_log f s ++ commands 0 nodes) (λ id. uses_of f s id ++ uses_in (commands 0 nodes) id) → IsOrdered f s nodes
@@ -42,6 +43,45 @@ host_of s id buffer = record {
 
 pub due_none : (id : HandleId) (image : Bool) (uses : List Use) (touch : Touch) → is_licensed image uses touch ≡ false → barrier_due id image uses touch ≡ None
 due_none id image uses touch e = ap (λ b. cond b (Some (record { id = id; first = waited_for uses; second = touch.access; layouts = layouts_of (layout_now (first_layout image) uses) touch.layout })) None) e
+
+-- What holds of each barrier that is due before a node
+
+kept_ones : (P : Touch → Type 0) (p : Touch → Bool) (ts : List Touch) → AllByRecursion P ts → AllByRecursion P (filter p ts)
+kept_ones P p [] all = tt
+kept_ones P p (t ∷ ts) all = go (p t) (kept_ones P p ts all.1)
+  where
+    go : (b : Bool) → AllByRecursion P (filter p ts) → AllByRecursion P (cond b (t ∷ filter p ts) (filter p ts))
+    go true rest = (all.0, rest)
+    go false rest = rest
+
+first_ones : (P : Touch → Type 0) (ts : List Touch) → AllByRecursion P ts → AllByRecursion P (firsts ts)
+first_ones P [] all = tt
+first_ones P (t ∷ ts) all = (all.0, kept_ones P (λ u. not (u.id.0 == t.id.0)) (firsts ts) (first_ones P ts all.1))
+
+pub own_touches : (n : Node) → AllByRecursion (Contains (touches n)) (touches n)
+own_touches n = recursion_from_All (Contains (touches n)) (touches n) (All-contains_itself (touches n))
+
+-- what holds of a barrier that is due before some touch of the node
+abbrev pub OfEachDue : (ℕ → Bool) → (ℕ → List Use) → Node → (Node → Type 0) → Type 0
+OfEachDue image uses n P = (t : Touch) (barrier : Barrier) → Contains (touches n) t → barrier_due t.id (image t.id.0) (uses t.id.0) (jointly n t) ≡ Some barrier → P (barrier_node barrier)
+
+module _ (image : ℕ → Bool) (uses : ℕ → List Use) (n : Node) (P : Node → Type 0) (each : OfEachDue image uses n P) where
+  one_due : (t : Touch) → Contains (touches n) t → (o : Option Barrier) → barrier_due t.id (image t.id.0) (uses t.id.0) (jointly n t) ≡ o → AllByRecursion P (node_for o)
+  one_due t has None e = tt
+  one_due t has (Some barrier) e = (each t barrier has e, tt)
+
+  many_due : (ts : List Touch) → AllByRecursion (Contains (touches n)) ts → AllByRecursion P (due_before image uses (map (jointly n) ts))
+  many_due [] all = tt
+  many_due (t ∷ ts) all =
+      each-append P (node_for (barrier_due t.id (image t.id.0) (uses t.id.0) (jointly n t))) (due_before image uses (map (jointly n) ts))
+      (one_due t all.0 (barrier_due t.id (image t.id.0) (uses t.id.0) (jointly n t)) refl) (many_due ts all.1)
+
+  pub due_each : AllByRecursion P (due_before image uses (joint_touches n))
+  due_each = many_due (firsts (touches n)) (first_ones (Contains (touches n)) (touches n) (own_touches n))
+
+  -- and of the node
+  pub with_due_each : P n → AllByRecursion P (with_due image uses n)
+  with_due_each here = each-append P (due_before image uses (joint_touches n)) (n ∷ []) due_each (here, tt)
 
 -- Barriers of buffers
 
@@ -64,31 +104,10 @@ due_keeps law id image uses touch buffer of = go (barrier_due id image uses touc
     go None e = tt
     go (Some barrier) e = (without_layouts barrier (law id image uses touch barrier of e ∙ buffer), tt)
 
-keeps-append : (xs ys : List Node) → AllByRecursion KeepsContents xs → AllByRecursion KeepsContents ys → AllByRecursion KeepsContents (xs ++ ys)
-keeps-append [] ys a b = b
-keeps-append (x ∷ xs) ys a b = (a.0, keeps-append xs ys a.1 b)
-
-module _ (f : Face) (s : Link) (n : Node) (layouts : HasLayouts (is_image_of s) n) (buffers : (t : Touch) → Contains (touches n) t → is_image_of s t.id.0 ≡ false) (law : DueLayouts) (some : (t : Touch) → Contains (touches n) t → IsTouchOf t.id (is_image_of s t.id.0) (jointly n t)) where
-  each_keeps : (ts : List Touch) → AllByRecursion (Contains (touches n)) ts → AllByRecursion KeepsContents (due_before (is_image_of s) (uses_of f s) (map (jointly n) ts))
-  each_keeps [] all = tt
-  each_keeps (t ∷ ts) all = keeps-append (node_for (barrier_due t.id (is_image_of s t.id.0) (uses_of f s t.id.0) (jointly n t))) (due_before (is_image_of s) (uses_of f s) (map (jointly n) ts))
-      (due_keeps law t.id (is_image_of s t.id.0) (uses_of f s t.id.0) (jointly n t) (buffers t all.0) (some t all.0)) (each_keeps ts all.1)
-
-  filtered : (p : Touch → Bool) (ts : List Touch) → AllByRecursion (Contains (touches n)) ts → AllByRecursion (Contains (touches n)) (filter p ts)
-  filtered p [] all = tt
-  filtered p (t ∷ ts) all = go (p t) (filtered p ts all.1)
-    where
-      go : (b : Bool) → AllByRecursion (Contains (touches n)) (filter p ts) → AllByRecursion (Contains (touches n)) (cond b (t ∷ filter p ts) (filter p ts))
-      go true rest = (all.0, rest)
-      go false rest = rest
-
-  first_ones : (ts : List Touch) → AllByRecursion (Contains (touches n)) ts → AllByRecursion (Contains (touches n)) (firsts ts)
-  first_ones [] all = tt
-  first_ones (t ∷ ts) all = (all.0, filtered (λ u. not (u.id.0 == t.id.0)) (firsts ts) (first_ones ts all.1))
-
-  pub node_behind : IsBehind (with_due (is_image_of s) (uses_of f s) n) n
+module _ (s : Link) (n : Node) (uses : ℕ → List Use) (buffers : (t : Touch) → Contains (touches n) t → is_image_of s t.id.0 ≡ false) (law : DueLayouts) (some : (t : Touch) → Contains (touches n) t → IsTouchOf t.id (is_image_of s t.id.0) (jointly n t)) where
+  pub node_behind : IsBehind (with_due (is_image_of s) uses n) n
   node_behind = record {
-    fences = due_before (is_image_of s) (uses_of f s) (joint_touches n);
+    fences = due_before (is_image_of s) uses (joint_touches n);
     is = refl;
-    keep = each_keeps (firsts (touches n)) (first_ones (touches n) (recursion_from_All (Contains (touches n)) (touches n) (All-contains_itself (touches n))));
+    keep = due_each (is_image_of s) uses n KeepsContents (λ t barrier has due. without_layouts barrier (law t.id (is_image_of s t.id.0) (uses t.id.0) (jointly n t) barrier (some t has) due ∙ buffers t has));
   }

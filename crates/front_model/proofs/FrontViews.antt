@@ -15,7 +15,8 @@ use Rattle.vk_model.specs.Log.{Command, commands, touches_object}
 use Rattle.vk_model.specs.Meaning.{apply, after_all}
 use Rattle.back_core.specs.Own.{log_of}
 use Rattle.back_core.specs.Link.{Link, kinds_of, contents_of}
-use Rattle.front_model.specs.Face.{Object, Waiting, Slot, Stored, Face, put_object, indexes_of, in_order, recorded, waits, content_in, view, nodes_touch}
+use Rattle.front_model.specs.declared.object.Object.{Object}
+use Rattle.front_model.specs.Face.{Waiting, Slot, Stored, Face, put_object, indexes_of, in_order, recorded, waits, content_in, view, nodes_touch}
 use Rattle.front_model.specs.Stands.{Hands, Holds}
 use Rattle.front_model.specs.Steps.{with_nodes, MayRecord, KeepsContents, IsBehind, with_object, stored_as, with_waiting, without_place, taken_from}
 use Rattle.front_model.proofs.Base.{cases_object, put_object-same, put_object-other}
@@ -141,12 +142,17 @@ first_done : (kinds : ℕ → Kind) (ws : List Waiting) (w : Waiting) → slice_
 first_done kinds [] w at c = cc
 first_done kinds (v ∷ ws) w at c = let same : w ≡ v = cc in ap (λ (x : Waiting). after_all kinds (commands 0 (nodes_of ws)) (apply kinds (Command 0 x.node) c)) same
 
-pub view_drained : (f : Face) (hands also : Hands) (s : Link) (index : ℕ) (nodes : List Node) (o : Object) (b : Stored) (w : Waiting) → Holds f hands s →
-    f.objects o ≡ Some b → slice_get b.waiting 0 ≡ Some w → barrier_of w.node ≡ None →
-    Holds (with_object f o (Some (taken_from b 0))) also s → MayRecord (with_object f o (Some (taken_from b 0))) also s index nodes → IsBehind nodes w.node →
+-- the first that waits, taken and recorded, however that was done
+pub view_drained_by : (f : Face) (hands also : Hands) (s : Link) (index : ℕ) (nodes : List Node) (o : Object) (b : Stored) (w : Waiting) → Holds f hands s →
+    f.objects o ≡ Some b → slice_get b.waiting 0 ≡ Some w →
+    Holds (with_object f o (Some (taken_from b 0))) also s → MayRecord (with_object f o (Some (taken_from b 0))) also s index nodes →
+    after_all (kinds_of s) (commands 0 nodes) (recorded f s) ≡ apply (kinds_of s) (Command 0 w.node) (recorded f s) →
     view (with_nodes (with_object f o (Some (taken_from b 0))) index nodes) s ≡ view f s
-view_drained f hands also s index nodes o b w h is first none h' may behind =
-    fun_ext (λ p. shown_behind (with_object f o (Some (taken_from b 0))) also s index nodes w.node h' may behind p ∙ go p (cases_object p o))
+view_drained_by f hands also s index nodes o b w h is first h' may does =
+    fun_ext (λ p.
+    shown_nodes (with_object f o (Some (taken_from b 0))) also s index nodes h' may p
+    ∙ ap (λ c. content_in (kinds_of s) c (put_object f.objects o (Some (taken_from b 0)) p)) does
+    ∙ go p (cases_object p o))
   where
     drained : Contents
     drained = apply (kinds_of s) (Command 0 w.node) (recorded f s)
@@ -163,6 +169,12 @@ view_drained f hands also s index nodes o b w h is first none h' may behind =
         ∙ shown_but f hands s h (kinds_of s) drained (recorded f s) p b.handle
         (store_apart h.owner p o b.handle (h.objects o b is).owned other)
         (λ j ne. update_leaves (kinds_of s) w b.handle ((h.objects o b is).waiting 0 w first).update (recorded f s) j ne)
+
+pub view_drained : (f : Face) (hands also : Hands) (s : Link) (index : ℕ) (nodes : List Node) (o : Object) (b : Stored) (w : Waiting) → Holds f hands s →
+    f.objects o ≡ Some b → slice_get b.waiting 0 ≡ Some w → barrier_of w.node ≡ None →
+    Holds (with_object f o (Some (taken_from b 0))) also s → MayRecord (with_object f o (Some (taken_from b 0))) also s index nodes → IsBehind nodes w.node →
+    view (with_nodes (with_object f o (Some (taken_from b 0))) index nodes) s ≡ view f s
+view_drained f hands also s index nodes o b w h is first none h' may behind = view_drained_by f hands also s index nodes o b w h is first h' may (behind_shows (kinds_of s) nodes w.node (recorded f s) behind)
 
 -- Objects
 

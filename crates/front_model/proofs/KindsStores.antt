@@ -22,7 +22,9 @@ use Rattle.gl_model.specs.GroupEffect.{change_buffer, swept, names_object, binds
 use Rattle.gl_model.specs.GroupModel.{GroupModel}
 use Rattle.gl_model.specs.Legal.{refused, refused_group, with_gl_error}
 use Rattle.gl_model.specs.Sizes.{HasSizes}
-use Rattle.front_model.specs.Face.{Object, Buffer, Texture, Renderbuffer, put_object}
+use Rattle.front_model.specs.declared.object.Object.{Object}
+use Rattle.front_model.specs.declared.object.Object.TheVariants.{Buffer, Texture, Renderbuffer}
+use Rattle.front_model.specs.Face.{put_object}
 use Rattle.front_model.specs.Wanted.{image_kind, buffer_kind, kind_wanted, exists, HasFreeNumbers, IsAccepted, IsBound}
 use Rattle.front_model.specs.Calls.{makes_storage}
 use Rattle.front_model.proofs.KindsTables.{said, said-swept, swept_changed}

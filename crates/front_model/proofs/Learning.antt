@@ -4,7 +4,9 @@ use Rattle.std.specs.Prelude.{Option}
 use Rattle.back_core.specs.Link.{Link, Asked}
 use Rattle.back_core.specs.Answers.{Learns}
 use Rattle.gl_model.specs.GroupModel.{GroupModel}
-use Rattle.front_model.specs.Face.{Object, Buffer, Stored, Face}
+use Rattle.front_model.specs.declared.object.Object.{Object}
+use Rattle.front_model.specs.declared.object.Object.TheVariants.{Buffer}
+use Rattle.front_model.specs.Face.{Stored, Face}
 use Rattle.front_model.specs.Stands.{no_hands, StoredOwned, Owns}
 use Rattle.front_model.specs.Wanted.{wanted, AgreeWith, Stands}
 use Rattle.front_model.proofs.LinkSteps.{learned_holds}

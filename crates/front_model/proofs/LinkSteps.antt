@@ -3,7 +3,7 @@ use Rattle.front_model.specs.Face.{Waiting}
 use Rattle.front_model.proofs.Standing.{slot_kept, waiting_kept, staging_stands}
 use Rattle.std.specs.Prelude.{if◌then◌else◌}
 use Rattle.std.specs.Prelude.{unwrap_or, ◌==◌}
-use Rattle.std.specs.List.{flat_map}
+use Rattle.std.specs.List.{flat_map, AllByRecursion}
 use Rattle.std.specs.Option.{option_map}
 use Rattle.vk_types.specs.declared.handles.HandleId.{HandleId}
 use Rattle.vk_types.specs.declared.accesses.Access.{Access}
@@ -13,7 +13,9 @@ use Rattle.barriers.specs.declared.tracker.Tracker.{Tracker}
 use Rattle.barriers.specs.Licence.{Use, Accessed, Fenced, barrier_due}
 use Rattle.barriers.specs.Trackers.{Tracks, new_tracker, taken}
 use Rattle.barriers.specs.Recording.{handle, AreFenced}
-use Rattle.front_model.specs.Face.{is_image, Stored, Object, indexes_of}
+use Rattle.front_model.specs.declared.object.Object.{Object}
+use Rattle.object_helper.specs.Objects.{is_image}
+use Rattle.front_model.specs.Face.{Stored, indexes_of}
 use Rattle.front_model.specs.Stands.{is_image_of, own_uses, uses_of, host_touch, IsKnownToHost, SlotStands, StoredStands, WaitingStands, HasHandle, Staging, Store}
 use Rattle.front_model.specs.Steps.{IsTarget, heard, heard_store, with_read, heard_hands}
 use Rattle.front_model.proofs.Tracking.{by_untouched, uses_without, uses_untouched, uses_read, uses_read_other}
@@ -32,16 +34,18 @@ use Rattle.vk_model.specs.Log.{Command, HostWrite, IsSound, NoneEmpty, commands}
 use Rattle.vk_model.specs.Fitting.{NodeFits}
 use Rattle.resource_use.specs.Uses.{number_of}
 use Rattle.submit_queue.specs.Histories.{last_number}
-use Rattle.back_core.specs.Own.{Own, HostWrote, HostRead, log_of, batch_by, batches_of, last_use}
+use Rattle.back_core.specs.Own.{Own, HostWrote, HostRead, log_by, log_of, batch_by, batches_of, last_use}
 use Rattle.back_core.specs.Link.{Link, Asked, IsNew, put, created, wrote, fetched, gave}
 use Rattle.back_core.specs.Needs.{IsOfGroup, IsFresh, MayTouch}
 use Rattle.back_core.specs.Answers.{Learns}
 use Rattle.front_model.specs.Face.{Slot, Face, nodes_touch, in_order, whole_log}
-use Rattle.front_model.specs.Stands.{Hands, no_hands, Owner, InHand, use_of, HandStands, IsPastUse, AreRecordable, Holds, new_face}
+use Rattle.front_model.specs.Stands.{Hands, no_hands, Owner, InHand, use_of, HandStands, IsPastUse, AreRecordable, ItemFits, Holds, new_face}
 use Rattle.front_model.specs.Steps.{fresh_slot, AreUses}
 use Rattle.front_model.proofs.Base.{put-same, put-other, put_at, put_is, put-some, put-true, is_some_of}
 use Rattle.front_model.proofs.Uses.{log_then, use_stays, number_stays, use_none}
 use Rattle.front_model.proofs.Sounds.{sound_with_write, recordable_left, recordable_right, recordable-append, recordable_write}
+use Rattle.front_model.proofs.Orders.{each-append}
+use Rattle.front_model.proofs.Fitted.{items_fit_more}
 use Rattle.front_model.proofs.Standing.{KindsGrow, fits_more, SameSlot, stored_kept, hand_kept, handle_held, not_in_hand}
 
 -- the indexes of a group are decided
@@ -76,8 +80,8 @@ none_fenced id image = record { licensed = λ before back barrier e. absurd (no_
 abbrev with_item : Link → Own → Link
 with_item s x = record s { mine = s.mine ++ x ∷ [] }
 
-host_holds : (f : Face) (hands : Hands) (s : Link) (x : Own) → batch_by x ≡ [] → ((j : ℕ) → own_uses j x ≡ []) → IsSound (whole_log f (with_item s x)) → AreRecordable (whole_log f (with_item s x)) → Holds f hands s → Holds f hands (with_item s x)
-host_holds f hands s x none unused sound recordable h =
+host_holds : (f : Face) (hands : Hands) (s : Link) (x : Own) → batch_by x ≡ [] → ((j : ℕ) → own_uses j x ≡ []) → AllByRecursion (ItemFits s.kinds) (log_by x) → IsSound (whole_log f (with_item s x)) → AreRecordable (whole_log f (with_item s x)) → Holds f hands s → Holds f hands (with_item s x)
+host_holds f hands s x none unused fit sound recordable h =
     let t : Link = with_item s x in
     let same : (j : ℕ) → SameSlot f f s t j = λ j. record {
       held = refl;
@@ -91,6 +95,7 @@ host_holds f hands s x none unused sound recordable h =
       fenced = λ j. subst (AreFenced (handle j) (is_image_of s j)) (sym (uses_without f s x j (unused j))) (h.fenced j);
       apart = h.apart;
       fits = h.fits;
+      fitted = subst (AllByRecursion (ItemFits s.kinds)) (sym (log_then s.mine x)) (each-append (ItemFits s.kinds) (log_of s.mine) (log_by x) h.fitted fit);
       none_empty = h.none_empty;
       few = h.few;
       of_group = h.of_group;
@@ -109,12 +114,12 @@ host_holds f hands s x none unused sound recordable h =
       foreign = λ index id far. use_stays s.mine x none index id ∙ h.foreign index id far;
     }
 
-pub wrote_holds : (f : Face) (hands : Hands) (s : Link) (id at : ℕ) (bytes : List ℕ) → Holds f hands s → Holds f hands (wrote s id at bytes)
-wrote_holds f hands s id at bytes h =
+pub wrote_holds : (f : Face) (hands : Hands) (s : Link) (id at : ℕ) (bytes : List ℕ) → Holds f hands s → (len : ℕ) → s.kinds id ≡ Some (kinds.Buffer len) → Holds f hands (wrote s id at bytes)
+wrote_holds f hands s id at bytes h len made =
     let x : Own = HostWrote id at bytes in
     let is : whole_log f (with_item s x) ≡ log_of s.mine ++ HostWrite id at bytes ∷ commands 0 (in_order f)
     = ap (λ l. l ++ commands 0 (in_order f)) (log_then s.mine x) ∙ append_assoc (log_of s.mine) (HostWrite id at bytes ∷ []) (commands 0 (in_order f)) in
-    host_holds f hands s x refl (λ j. refl)
+    host_holds f hands s x refl (λ j. refl) ((len, made), tt)
     (subst IsSound (sym is) (sound_with_write id at bytes (log_of s.mine) (commands 0 (in_order f)) h.sound))
     (subst AreRecordable (sym is) (recordable-append (log_of s.mine) (HostWrite id at bytes ∷ commands 0 (in_order f))
     (recordable_left (log_of s.mine) (commands 0 (in_order f)) h.recordable)
@@ -231,6 +236,7 @@ module _ (f : Face) (hands : Hands) (s : Link) (id at : ℕ) (bytes : List ℕ) 
         ];
         apart = h.apart;
         fits = h.fits;
+        fitted = subst (AllByRecursion (ItemFits s.kinds)) (sym (log_then s.mine (HostRead id at bytes) ∙ append-nil (log_of s.mine))) h.fitted;
         none_empty = h.none_empty;
         few = h.few;
         of_group = h.of_group;
@@ -268,6 +274,7 @@ knowing_holds f hands s d n a h =
       fenced = h.fenced;
       apart = h.apart;
       fits = h.fits;
+      fitted = h.fitted;
       none_empty = h.none_empty;
       few = h.few;
       of_group = h.of_group;
@@ -301,6 +308,7 @@ new_holds s group few new =
       fenced = λ id. subst (λ m. AreFenced (handle id) (is_image_of s id) (flat_map (own_uses id) m ++ [])) (sym mine) (none_fenced (handle id) (is_image_of s id));
       apart = λ i j ne. tt;
       fits = λ index. All-nil (NodeFits s.kinds);
+      fitted = subst (AllByRecursion (ItemFits s.kinds)) (sym log) tt;
       none_empty = λ index. All-nil NoneEmpty;
       few = λ index. omega arith;
       of_group = λ index other. refl;
@@ -365,6 +373,7 @@ created_holds f hands s id kind h fresh =
       ];
       apart = h.apart;
       fits = λ index. All-weaker (NodeFits s.kinds) (NodeFits t.kinds) (fits_more s.kinds t.kinds grows) (f.pending index) (h.fits index);
+      fitted = items_fit_more s.kinds t.kinds grows (log_of s.mine) h.fitted;
       none_empty = h.none_empty;
       few = h.few;
       of_group = h.of_group;
@@ -443,6 +452,7 @@ gave_holds f hands s id slot uses h at are =
       fenced = h.fenced;
       apart = h.apart;
       fits = h.fits;
+      fitted = h.fitted;
       none_empty = h.none_empty;
       few = h.few;
       of_group = h.of_group;

@@ -26,7 +26,8 @@ use Rattle.back_core.specs.Own.{Own, HostWrote, Enqueued, HostRead, log_by, log_
 use Rattle.back_core.specs.Link.{Link, kinds_of, contents_of, created, wrote, enqueued, fetched}
 use Rattle.back_core.specs.Needs.{IsOfGroup, IsFresh}
 use Rattle.back_core.specs.Answers.{Learns}
-use Rattle.front_model.specs.Face.{Object, Slot, Stored, Face, put_object, indexes_of, in_order, recorded, waits, content_in, view, nodes_touch}
+use Rattle.front_model.specs.declared.object.Object.{Object}
+use Rattle.front_model.specs.Face.{Slot, Stored, Face, put_object, indexes_of, in_order, recorded, waits, content_in, view, nodes_touch}
 use Rattle.front_model.specs.Stands.{Hands, Holds}
 use Rattle.front_model.specs.Steps.{IsNextBatch, flushed}
 use Rattle.front_model.proofs.Base.{put-other, cases_object, put_object-same, put_object-other}

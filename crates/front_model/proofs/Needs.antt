@@ -21,7 +21,8 @@ use Rattle.barriers.specs.Logs.{uses_in}
 use Rattle.back_core.specs.Own.{log_of, batches_of, last_use, next_number}
 use Rattle.back_core.specs.Link.{Link, put, abandoned}
 use Rattle.back_core.specs.Needs.{IsOfGroup, HostMay, MayTouch, MayEnqueue, MayGive, HasBatch}
-use Rattle.front_model.specs.Face.{Object, Waiting, Slot, Stored, Face, nodes_touch, indexes_of, in_order, IsUpdate}
+use Rattle.front_model.specs.declared.object.Object.{Object}
+use Rattle.front_model.specs.Face.{Waiting, Slot, Stored, Face, nodes_touch, indexes_of, in_order, IsUpdate}
 use Rattle.front_model.specs.Stands.{Hands, Store, Staging, InHand, SlotStands, StagingStands, Holds, IsQuiet, Owns, BarriersAreLicensed}
 use Rattle.front_model.specs.Steps.{fresh_slot, AreUses, IsNextBatch}
 use Rattle.front_model.proofs.Base.{put-other}

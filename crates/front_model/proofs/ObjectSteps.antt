@@ -2,7 +2,7 @@
 use Rattle.std.specs.Prelude.{unwrap_or}
 use Rattle.barriers.specs.Trackers.{new_tracker}
 use Rattle.barriers.specs.Recording.{handle}
-use Rattle.front_model.specs.Face.{is_image}
+use Rattle.object_helper.specs.Objects.{is_image}
 use Rattle.front_model.specs.Stands.{IsTrackedBy}
 use Rattle.vk_types.specs.declared.handles.Kind.TheVariants as kinds
 use Rattle.std.proofs.Common.{◌≡◌, ◌≢◌, ℕ, [], length, refl, sym, ◌∙◌, ap, subst, inl, inr}
@@ -14,7 +14,8 @@ use Rattle.vk_types.specs.declared.ops.Node.{Node}
 use Rattle.vk_model.specs.Log.{NoneEmpty}
 use Rattle.vk_model.specs.Fitting.{NodeFits}
 use Rattle.back_core.specs.Link.{Link, put}
-use Rattle.front_model.specs.Face.{Object, Waiting, Slot, Stored, Face, IsUpdate}
+use Rattle.front_model.specs.declared.object.Object.{Object}
+use Rattle.front_model.specs.Face.{Waiting, Slot, Stored, Face, IsUpdate}
 use Rattle.front_model.specs.Stands.{Hands, Owner, Store, Staging, InHand, WaitingStands, StoredStands, HandStands, HasHandle, Holds}
 use Rattle.front_model.specs.Steps.{fresh_slot, with_object, stored_as, with_waiting}
 use Rattle.front_model.proofs.Base.{put-same, put-other, put_at, put_is, put-some, is_some_of, cases_object, put_object-same, put_object-other, put_object_is, push_is, push_at, push_keeps}
@@ -48,6 +49,7 @@ exchanged f hands after s o c also stands hands_stand known h others =
       fenced = h.fenced;
       apart = h.apart;
       fits = h.fits;
+      fitted = h.fitted;
       none_empty = h.none_empty;
       few = h.few;
       of_group = h.of_group;

@@ -8,7 +8,8 @@ use Rattle.barriers.specs.Licence.{Use, Accessed, barrier_due, writes}
 use Rattle.barriers.specs.Logs.{joint_access, AreUsesIn}
 use Rattle.barriers.specs.Recording.{handle, AreFenced, IsMadeKnown}
 use Rattle.barriers.proofs.Joint.{joint_meets}
-use Rattle.front_model.specs.Face.{is_image, indexes_of}
+use Rattle.object_helper.specs.Objects.{is_image}
+use Rattle.front_model.specs.Face.{indexes_of}
 use Rattle.front_model.specs.Stands.{is_image_of, own_uses, uses_of, host_touch, IsKnownToHost}
 use Rattle.front_model.specs.Steps.{heard, heard_store, with_read}
 use Rattle.front_model.proofs.Tracking.{by_none, own_uses-push, uses_without, uses_untouched, uses_read, uses_read_other}
@@ -38,7 +39,8 @@ use Rattle.back_core.specs.Own.{Own, HostWrote, Enqueued, HostRead, log_by, log_
 use Rattle.back_core.specs.Link.{Link, Asked, created, wrote, enqueued, fetched, gave}
 use Rattle.back_core.specs.Needs.{IsFresh}
 use Rattle.back_core.specs.Answers.{Learns}
-use Rattle.front_model.specs.Face.{Object, Stored, Face, nodes_touch}
+use Rattle.front_model.specs.declared.object.Object.{Object}
+use Rattle.front_model.specs.Face.{Stored, Face, nodes_touch}
 use Rattle.front_model.specs.Stands.{Hands, Holds, IsQuiet}
 use Rattle.front_model.specs.Steps.{noted_store, with_nodes, IsNextBatch, flushed, with_object}
 use Rattle.front_model.proofs.Base.{put_holds, put_object-other, nodes_touch-append}

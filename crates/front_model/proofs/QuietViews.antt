@@ -2,7 +2,8 @@
 use Rattle.std.proofs.Common.{◌≡◌, ℕ, sym, ap, ◌∙◌, false}
 use Rattle.back_core.specs.Own.{log_of}
 use Rattle.back_core.specs.Link.{Link, kinds_of, contents_of}
-use Rattle.front_model.specs.Face.{Object, Face, indexes_of, in_order, recorded, content_in, view, nodes_touch}
+use Rattle.front_model.specs.declared.object.Object.{Object}
+use Rattle.front_model.specs.Face.{Face, indexes_of, in_order, recorded, content_in, view, nodes_touch}
 use Rattle.front_model.specs.Stands.{IsQuiet}
 use Rattle.front_model.proofs.Contents.{none_touches, nodes_leave}
 use Rattle.front_model.proofs.LinkViews.{then_pending}

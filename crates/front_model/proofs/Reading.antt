@@ -13,7 +13,8 @@ use Rattle.gl_model.specs.Bindings.{buffer_binding}
 use Rattle.gl_model.specs.GroupModel.{GroupModel}
 use Rattle.gl_model.specs.Effect.{store_of, map_place}
 use Rattle.gl_model.specs.Legal.{Answers, GlAnswersIn, mapped_cells}
-use Rattle.front_model.specs.Face.{Object, Buffer}
+use Rattle.front_model.specs.declared.object.Object.{Object}
+use Rattle.front_model.specs.declared.object.Object.TheVariants.{Buffer}
 use Rattle.front_model.specs.Wanted.{wanted, AgreeWith, IsAccepted, IsBound, HasMapRange}
 use Rattle.front_model.proofs.Ranges.{read_range}
 use Rattle.front_model.proofs.AgreeingCells.{Right, length-cells, length-part, cell_at-cells, cell_at-part}

@@ -25,12 +25,14 @@ use Rattle.submit_queue.specs.Histories.{last_number}
 use Rattle.back_core.specs.Own.{Own, Enqueued, log_of, batches_of, batch_touches, last_use, next_number}
 use Rattle.back_core.specs.Link.{Link, put, enqueued}
 use Rattle.back_core.specs.Needs.{IsOfGroup, MayTouch}
-use Rattle.front_model.specs.Face.{Object, Slot, Stored, Face, nodes_touch, indexes_of, in_order}
-use Rattle.front_model.specs.Stands.{Hands, Store, Staging, InHand, use_of, SlotStands, StoredStands, HandStands, IsPastUse, AreRecordable, Holds}
+use Rattle.front_model.specs.declared.object.Object.{Object}
+use Rattle.front_model.specs.Face.{Slot, Stored, Face, nodes_touch, indexes_of, in_order}
+use Rattle.front_model.specs.Stands.{Hands, Store, Staging, InHand, use_of, SlotStands, StoredStands, HandStands, IsPastUse, AreRecordable, ItemFits, Holds}
 use Rattle.front_model.specs.Steps.{noted, noted_store, with_nodes, noted_hands, IsTarget, MayRecord, IsNextBatch, flushed}
 use Rattle.front_model.proofs.Base.{put-same, put-other, put_at, put_holds, map_is, map_some, some_is, nodes_touch-append}
 use Rattle.front_model.proofs.Uses.{log_then, number_then, use_then, use_apart}
 use Rattle.front_model.proofs.Sounds.{recordable_nodes}
+use Rattle.front_model.proofs.Fitted.{nodes_fit}
 use Rattle.front_model.proofs.Orders.{Mutual, ChangePlaces, Split, each-append, none_left, none_right, apart_left, apart_right, apart_turned, split, before, behind, order_now, order_with, before_all, behind_all, sound_flushed, recordable_flushed, sound_recorded, recordable_recorded}
 use Rattle.front_model.proofs.Standing.{SameSlot, waiting_kept, stored_kept, hand_kept, staging_stands}
 
@@ -164,6 +166,7 @@ module _ (f : Face) (hands : Hands) (s : Link) (index : ℕ) (batch : Batch) (h 
         apart = λ i j ne. put_holds (λ l. NoConflict l (g.pending j)) f.pending index [] i (λ e. none_left (g.pending j))
             (λ other. put_holds (NoConflict (f.pending i)) f.pending index [] j (λ e. none_right (f.pending i)) (λ other. h.apart i j ne));
         fits = λ i. put_holds (All (NodeFits s.kinds)) f.pending index [] i (λ e. All-nil (NodeFits s.kinds)) (λ ne. h.fits i);
+        fitted = subst (AllByRecursion (ItemFits s.kinds)) (sym log_now) (each-append (ItemFits s.kinds) (log_of s.mine) (commands 0 (f.pending index)) h.fitted (nodes_fit s.kinds (f.pending index) (h.fits index)));
         none_empty = λ i. put_holds (All NoneEmpty) f.pending index [] i (λ e. All-nil NoneEmpty) (λ ne. h.none_empty i);
         few = λ i. put_holds (λ (l : List Node). length l < 4294967294) f.pending index [] i (λ e. omega arith) (λ ne. h.few i);
         of_group = λ i other. put_holds (λ l. l ≡ []) f.pending index [] i (λ e. refl) (λ ne. h.of_group i other);
@@ -310,6 +313,7 @@ module _ (f : Face) (hands : Hands) (s : Link) (index : ℕ) (nodes : List Node)
             (λ e. apart_right (f.pending i) (f.pending index) nodes (h.apart i index ne') (apart_turned turn nodes (f.pending i) (may.apart i ne')))
             (λ other. h.apart i j ne));
         fits = λ i. put_holds (All (NodeFits s.kinds)) f.pending index both i (λ e. All-append (NodeFits s.kinds) (f.pending index) nodes (h.fits index) may.fits) (λ ne. h.fits i);
+        fitted = h.fitted;
         none_empty = λ i. put_holds (All NoneEmpty) f.pending index both i (λ e. All-append NoneEmpty (f.pending index) nodes (h.none_empty index) may.none_empty) (λ ne. h.none_empty i);
         few = λ i. put_holds (λ (l : List Node). length l < 4294967294) f.pending index both i
             (λ e. let sum : length both ≡ length (f.pending index) + length nodes = length-append (f.pending index) nodes in let few : length (f.pending index) + length nodes < 4294967294 = may.few in omega (arith, sum, few)) (λ ne. h.few i);

@@ -10,7 +10,8 @@ use Rattle.vk_model.specs.Cells.{Contents}
 use Rattle.vk_model.specs.Log.{commands, touches_object}
 use Rattle.vk_model.specs.Meaning.{after_all}
 use Rattle.back_core.specs.Link.{Link, kinds_of}
-use Rattle.front_model.specs.Face.{Object, Waiting, Stored, Face, put_object, recorded, waits, content_in, view, nodes_touch}
+use Rattle.front_model.specs.declared.object.Object.{Object}
+use Rattle.front_model.specs.Face.{Waiting, Stored, Face, put_object, recorded, waits, content_in, view, nodes_touch}
 use Rattle.front_model.specs.Stands.{Owner, Store, Staging, InHand, StagingStands, WaitingStands, StoredStands, Hands, Holds}
 use Rattle.front_model.specs.Steps.{noted_store, with_object}
 use Rattle.front_model.proofs.Base.{cases_object, put_object-same, put_object-other}

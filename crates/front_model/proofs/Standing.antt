@@ -3,7 +3,7 @@ use Rattle.std.specs.Prelude.{unwrap_or}
 use Rattle.barriers.specs.declared.tracker.Tracker.{Tracker}
 use Rattle.barriers.specs.Trackers.{Tracks, new_tracker}
 use Rattle.barriers.specs.Recording.{handle}
-use Rattle.front_model.specs.Face.{is_image}
+use Rattle.object_helper.specs.Objects.{is_image}
 use Rattle.front_model.specs.Stands.{is_image_of, uses_of, IsTrackedBy}
 use Rattle.std.proofs.Common.{Bool}
 use Rattle.vk_types.specs.declared.handles.Kind.TheVariants as kinds
@@ -16,7 +16,8 @@ use Rattle.vk_types.specs.declared.ops.Node.{Node}
 use Rattle.vk_types.specs.Touches.{rows_size, buffer_texel}
 use Rattle.vk_model.specs.Fitting.{HasRange, HasRect, HasTexels, IsImage, format_in, LayoutsFit, OpFits, NodeFits}
 use Rattle.back_core.specs.Link.{Link}
-use Rattle.front_model.specs.Face.{Object, Waiting, Slot, Stored, Face}
+use Rattle.front_model.specs.declared.object.Object.{Object}
+use Rattle.front_model.specs.Face.{Waiting, Slot, Stored, Face}
 use Rattle.front_model.specs.Stands.{Owner, Store, Staging, InHand, use_of, SlotStands, StagingStands, WaitingStands, StoredStands, HandStands, HasHandle}
 
 -- Nodes fit where more objects have kinds

@@ -2,7 +2,7 @@
 use Rattle.std.specs.Prelude.{unwrap_or}
 use Rattle.barriers.specs.Trackers.{new_tracker}
 use Rattle.barriers.specs.Recording.{handle}
-use Rattle.front_model.specs.Face.{is_image}
+use Rattle.object_helper.specs.Objects.{is_image}
 use Rattle.front_model.specs.Stands.{IsTrackedBy}
 use Rattle.vk_types.specs.declared.handles.Kind.TheVariants as kinds
 use Rattle.std.proofs.Common.{◌≡◌, ◌≢◌, ℕ, ◌-◌, ◌<◌, ◌≤◌, zero, suc, cond, List, [], ◌∷◌, refl, sym, ◌∙◌, ap, subst, arith, inl, inr}
@@ -12,7 +12,8 @@ use Rattle.std.proofs.lemmas.Option.{none-some, same_Some}
 use Rattle.vk_types.specs.declared.handles.Kind.{Kind}
 use Rattle.vk_types.specs.declared.ops.Node.{Node}
 use Rattle.back_core.specs.Link.{Link, put}
-use Rattle.front_model.specs.Face.{Object, Waiting, Stored, Face, same_object}
+use Rattle.front_model.specs.declared.object.Object.{Object}
+use Rattle.front_model.specs.Face.{Waiting, Stored, Face, same_object}
 use Rattle.front_model.specs.Stands.{Hands, Owner, Store, Staging, InHand, StagingStands, StoredStands, HasHandle, Holds}
 use Rattle.front_model.specs.Steps.{fresh_slot, with_object, without_place, taken_from}
 use Rattle.front_model.proofs.Base.{put-same, put-other, put_at, put-some, is_some_of, same_object-self, same_object-other}

@@ -37,7 +37,7 @@ other_place : (id i : ℕ) (r : Range) → (i < r.start) ⊎ (r.end ≤ i) → c
 other_place id i r (inl before) = and_left (eqb r.id id && nat_le r.start i) (nat_lt i r.end) (and_right (eqb r.id id) (nat_le r.start i) (lt-leb r.start i before))
 other_place id i r (inr behind) = and_right (eqb r.id id && nat_le r.start i) (nat_lt i r.end) (le-ltb i r.end behind)
 
-only : (b : Bool) → (b || false) ≡ true → b ≡ true
+pub only : (b : Bool) → (b || false) ≡ true → b ≡ true
 only true e = refl
 only false e = e
 

@@ -15,12 +15,16 @@ use Rattle.vk_model.specs.Meaning.{eval, after_all}
 use Rattle.barriers.specs.declared.tracker.Tracker.{Tracker}
 use Rattle.back_core.specs.Own.{log_of}
 use Rattle.back_core.specs.Link.{Link, kinds_of}
+use Rattle.front_model.specs.declared.object.Object.{Object}
+use Rattle.front_model.specs.declared.object.Object.TheVariants.{Buffer, Texture, Renderbuffer}
+use Rattle.front_model.specs.declared.object.StoredKind.{StoredKind}
+use Rattle.front_model.specs.declared.object.StoredKind.TheVariants as stored
 
--- an object that holds cells, by its number among those of its kind
-pub data Object : Type 0 where
-  Buffer : ℕ → Object
-  Texture : ℕ → Object
-  Renderbuffer : ℕ → Object
+-- the object of a kind that has a number
+abbrev pub object_of : StoredKind → ℕ → Object
+object_of stored.Buffer number = Buffer number
+object_of stored.Texture number = Texture number
+object_of stored.Renderbuffer number = Renderbuffer number
 
 -- the test of whether two are one object
 abbrev pub same_object : Object → Object → Bool
@@ -57,10 +61,6 @@ pub record Slot : Type 0 where
   pub kind : Kind
   pub used : ℕ → ℕ
   pub tracker : Tracker
-
-abbrev pub is_image : Kind → Bool
-is_image (kind.Buffer size) = false
-is_image (kind.Image format width height) = true
 
 -- an object that has a store: its handle, and what waits on it, in order
 pub record Stored : Type 0 where

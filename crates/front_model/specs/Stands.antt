@@ -1,14 +1,16 @@
 -- When a front stands on what its group sees of the back.
 use Rattle.std.specs.Prelude.{◌≡◌, ◌≢◌, ℕ, ◌+◌, ◌<◌, ◌≤◌, ◌⊎◌, ◌==◌, Bool, true, false, if◌then◌else◌, Option, Some, None, IfSome, IsSome, List, [], ◌∷◌, ◌++◌, length, slice_get, All}
-use Rattle.std.specs.List.{flat_map}
+use Rattle.std.specs.List.{flat_map, AllByRecursion}
 use Rattle.vk_types.specs.declared.batches.QueueSerial.{QueueSerial}
+use Rattle.vk_types.specs.declared.handles.Kind.{Kind}
+use Rattle.vk_types.specs.declared.handles.Kind.TheVariants as kinds
 use Rattle.vk_types.specs.declared.ops.Op.{Op}
 use Rattle.vk_types.specs.declared.ops.Op.TheVariants as op
 use Rattle.vk_types.specs.declared.ops.Node.{Node}
 use Rattle.vk_types.specs.declared.regions.Touch.{Touch}
 use Rattle.vk_types.specs.Accesses.{host_read}
 use Rattle.vk_types.specs.Touches.{whole}
-use Rattle.vk_model.specs.Log.{Item, Command, commands, IsSound, NoneEmpty, NoConflict}
+use Rattle.vk_model.specs.Log.{Item, Command, HostWrite, Wait, Signal, commands, IsSound, NoneEmpty, NoConflict}
 use Rattle.vk_model.specs.Fitting.{NodeFits}
 use Rattle.resource_use.specs.Uses.{number_of}
 use Rattle.submit_queue.specs.Histories.{last_number}
@@ -20,7 +22,9 @@ use Rattle.barriers.specs.Recording.{handle, AreLicensed, AreFenced}
 use Rattle.back_core.specs.Own.{Own, HostWrote, Enqueued, HostRead, log_of, batches_of, last_use, IsReadable}
 use Rattle.back_core.specs.Link.{Link, kinds_of}
 use Rattle.back_core.specs.Needs.{IsOfGroup, MayTouch}
-use Rattle.front_model.specs.Face.{Object, Waiting, Slot, Stored, Face, Outline, is_image, outline_at, in_order, whole_log, view, nodes_touch, IsUpdate}
+use Rattle.front_model.specs.declared.object.Object.{Object}
+use Rattle.object_helper.specs.Objects.{is_image}
+use Rattle.front_model.specs.Face.{Waiting, Slot, Stored, Face, Outline, outline_at, in_order, whole_log, view, nodes_touch, IsUpdate}
 
 -- the handles that are in no object, since a call is making them or is about to give them away
 abbrev pub Hands : Type 0
@@ -133,6 +137,13 @@ pub record IsRecordable (n : Node) : Type 0 where
 abbrev pub AreRecordable : List Item → Type 0
 AreRecordable log = (k queue : ℕ) (n : Node) → slice_get log k ≡ Some (Command queue n) → IsRecordable n
 
+-- The item of a log fits objects of these kinds: a node does, and the host writes buffers alone.
+abbrev pub ItemFits : (ℕ → Option Kind) → Item → Type 0
+ItemFits made (Command queue n) = NodeFits made n
+ItemFits made (HostWrite id at bytes) = (len : ℕ) × (made id ≡ Some (kinds.Buffer len))
+ItemFits made (Wait queue signal) = Unit {0}
+ItemFits made (Signal queue signal) = Unit {0}
+
 -- Everything but that the contents are the right ones.
 pub record Holds (f : Face) (hands : Hands) (s : Link) : Type 0 where
   -- the log: its nodes are in order, a front may record them, and nodes of two contexts that are pending do not conflict
@@ -142,6 +153,8 @@ pub record Holds (f : Face) (hands : Hands) (s : Link) : Type 0 where
   pub fenced : (id : ℕ) → AreFenced (handle id) (is_image_of s id) (uses_of f s id)
   pub apart : (i j : ℕ) → i ≢ j → NoConflict (f.pending i) (f.pending j)
   pub fits : (index : ℕ) → All (NodeFits s.kinds) (f.pending index)
+  -- and so does what the group had the back do
+  pub fitted : AllByRecursion (ItemFits s.kinds) (log_of s.mine)
   pub none_empty : (index : ℕ) → All NoneEmpty (f.pending index)
   pub few : (index : ℕ) → length (f.pending index) < 4294967294
   pub of_group : (index : ℕ) → (IsOfGroup f.group index → ⊥) → f.pending index ≡ []

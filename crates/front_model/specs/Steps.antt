@@ -9,6 +9,7 @@ use Rattle.vk_types.specs.declared.ops.Node.{Node}
 use Rattle.vk_types.specs.declared.batches.Batch.{Batch}
 use Rattle.vk_types.specs.declared.batches.QueueSerial.{QueueSerial}
 use Rattle.vk_types.specs.declared.accesses.Access.{Access}
+use Rattle.vk_types.specs.declared.regions.Barrier.{Barrier}
 use Rattle.vk_types.specs.Accesses.{host_read}
 use Rattle.vk_model.specs.Log.{commands, IsSound, NoneEmpty, NoConflict}
 use Rattle.vk_model.specs.Fitting.{NodeFits}
@@ -17,10 +18,12 @@ use Rattle.resource_use.specs.Uses.{number_of}
 use Rattle.barriers.specs.Licence.{Accessed}
 use Rattle.barriers.specs.Trackers.{new_tracker, taken}
 use Rattle.barriers.specs.Logs.{uses_in}
-use Rattle.barriers.specs.Recording.{handle, AreFenced}
+use Rattle.barriers.specs.Recording.{handle, AreFenced, barrier_node}
 use Rattle.back_core.specs.Link.{Link, put}
 use Rattle.back_core.specs.Needs.{IsOfGroup}
-use Rattle.front_model.specs.Face.{Object, Waiting, Slot, Stored, Face, is_image, put_object, nodes_touch, whole_log}
+use Rattle.front_model.specs.declared.object.Object.{Object}
+use Rattle.object_helper.specs.Objects.{is_image}
+use Rattle.front_model.specs.Face.{Waiting, Slot, Stored, Face, put_object, nodes_touch, whole_log}
 use Rattle.front_model.specs.Stands.{Hands, IsRecordable, is_image_of, uses_of}
 
 -- Handles
@@ -90,6 +93,11 @@ pub record IsBehind (nodes : List Node) (n : Node) : Type 0 where
   pub fences : List Node
   pub is : nodes ≡ fences ++ n ∷ []
   pub keep : AllByRecursion KeepsContents fences
+
+-- the node is a barrier
+pub record IsBarrier (n : Node) : Type 0 where
+  pub barrier : Barrier
+  pub is : n ≡ barrier_node barrier
 
 -- Reading by the host
 

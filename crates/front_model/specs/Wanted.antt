@@ -21,7 +21,9 @@ use Rattle.gl_model.specs.Reached.{texture_of, renderbuffer_of}
 use Rattle.gl_model.specs.Refusal.{refusal}
 use Rattle.gl_model.specs.Sizes.{HasSizes}
 use Rattle.back_core.specs.Link.{Link}
-use Rattle.front_model.specs.Face.{Object, Buffer, Texture, Renderbuffer, Face, outline_at, view}
+use Rattle.front_model.specs.declared.object.Object.{Object}
+use Rattle.front_model.specs.declared.object.Object.TheVariants.{Buffer, Texture, Renderbuffer}
+use Rattle.front_model.specs.Face.{Face, outline_at, view}
 use Rattle.front_model.specs.Stands.{Holds, no_hands, IsQuiet}
 
 -- the kind of an image's store

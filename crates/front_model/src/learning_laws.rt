@@ -3,7 +3,8 @@ ghost use Rattle.std.specs.Prelude.{◌≡◌, Option};
 ghost use Rattle.gl_model.specs.GroupModel.{GroupModel};
 ghost use Rattle.back_core.specs.Link.{Link};
 ghost use Rattle.back_core.specs.Answers.{Learns};
-ghost use Rattle.front_model.specs.Face.{Object, Stored, Face, view};
+ghost use Rattle.front_model.specs.declared.object.Object.{Object};
+ghost use Rattle.front_model.specs.Face.{Stored, Face, view};
 ghost use Rattle.front_model.specs.Stands.{Hands, Holds, Owns, IsQuiet};
 ghost use Rattle.front_model.specs.Wanted.{Stands};
 

@@ -5,6 +5,8 @@
 mod constants_laws;
 mod fresh_laws;
 mod learning_laws;
+mod node_laws;
+mod object;
 mod quiet_laws;
 mod state_laws;
 mod step_laws;
@@ -13,6 +15,8 @@ mod view_laws;
 pub use constants_laws::no_constants_are_recorded;
 pub use fresh_laws::fresh_handles_show;
 pub use learning_laws::fronts_learn;
+pub use node_laws::due_nodes_show;
+pub use object::{Object, StoredKind};
 pub use quiet_laws::quiet_objects_show;
 pub use state_laws::{
     accepted_calls_are_in_range, calls_keep_agreement, calls_keep_stores,

@@ -1,7 +1,8 @@
 // What an object shows that the host may use.
 ghost use Rattle.std.specs.Prelude.{◌≡◌};
 ghost use Rattle.back_core.specs.Link.{Link, contents_of};
-ghost use Rattle.front_model.specs.Face.{Object, Face, view};
+ghost use Rattle.front_model.specs.declared.object.Object.{Object};
+ghost use Rattle.front_model.specs.Face.{Face, view};
 ghost use Rattle.front_model.specs.Stands.{IsQuiet};
 
 /// An object that is quiet shows what the group had done with its store: nothing waits on it, and nothing pending touches it.

@@ -25,7 +25,9 @@ ghost use Rattle.gl_model.specs.Legal.{Answers, after_entry, refused, told};
 ghost use Rattle.gl_model.specs.Reached.{changed_buffer, changed_images, reached};
 ghost use Rattle.gl_model.specs.Refusal.{refusal};
 ghost use Rattle.gl_model.specs.Sizes.{HasSizes};
-ghost use Rattle.front_model.specs.Face.{Object, Buffer, put_object};
+ghost use Rattle.front_model.specs.declared.object.Object.{Object};
+ghost use Rattle.front_model.specs.declared.object.Object.TheVariants.{Buffer};
+ghost use Rattle.front_model.specs.Face.{put_object};
 ghost use Rattle.front_model.specs.Wanted.{buffer_kind, kind_wanted, wanted, AgreeWith, exists, IsMapped, IsAccepted, IsBound, HasBound, HasFreeNumbers, HasMapRange, IsPositive, with_bytes, with_copy};
 ghost use Rattle.front_model.specs.Calls.{makes_storage};
 

@@ -10,7 +10,8 @@ ghost use Rattle.back_core.specs.Own.{log_of, IsReadable};
 ghost use Rattle.back_core.specs.Link.{Link, IsNew, put, created, wrote, enqueued, fetched, gave, abandoned};
 ghost use Rattle.back_core.specs.Needs.{IsOfGroup, IsFresh, HostMay, MayEnqueue, MayGive, HasBatch};
 ghost use Rattle.back_core.specs.Answers.{Learns};
-ghost use Rattle.front_model.specs.Face.{Object, Waiting, Slot, Stored, Face, nodes_touch, IsUpdate};
+ghost use Rattle.front_model.specs.declared.object.Object.{Object};
+ghost use Rattle.front_model.specs.Face.{Waiting, Slot, Stored, Face, nodes_touch, IsUpdate};
 ghost use Rattle.front_model.specs.Stands.{Hands, no_hands, Holds, Owns, IsQuiet, IsKnownToHost, new_face};
 ghost use Rattle.front_model.specs.Steps.{fresh_slot, AreUses, IsTarget, with_read, heard_hands, with_nodes, noted_hands, MayRecord, IsNextBatch, flushed, with_object, stored_as, with_waiting, taken_from};
 
@@ -27,7 +28,8 @@ pub fn steps_hold()
     ensures creates { (f : Face) (hands : Hands) (s : Link) (id : ℕ) (kind : Kind) → Holds f hands s → IsFresh s id →
         Holds f (put hands id (Some (fresh_slot id kind))) (created s id kind) }
     ensures writes { (f : Face) (hands : Hands) (s : Link) (id at : ℕ) (bytes : List ℕ) → Holds f hands s →
-        ((index : ℕ) → nodes_touch (f.pending index) id ≡ false) → Holds f hands (wrote s id at bytes) }
+        ((index : ℕ) → nodes_touch (f.pending index) id ≡ false) → (len : ℕ) → s.kinds id ≡ Some (Kind.Buffer len) →
+        Holds f hands (wrote s id at bytes) }
     ensures fetches { (f : Face) (hands : Hands) (s : Link) (id at : ℕ) (bytes : List ℕ) → Holds f hands s → IsTarget f hands id →
         ((index : ℕ) → nodes_touch (f.pending index) id ≡ false) → IsKnownToHost f s id →
         Holds (with_read f id) (heard_hands hands id) (fetched s id at bytes) }

@@ -11,18 +11,21 @@ ghost use Rattle.vk_types.specs.declared.regions.Touch.{Touch};
 ghost use Rattle.vk_types.specs.declared.regions.Barrier.{Barrier};
 ghost use Rattle.vk_types.specs.Touches.{touches, barrier_of, the_end};
 ghost use Rattle.vk_types.specs.declared.ops.Op.TheVariants as op;
-ghost use Rattle.vk_model.specs.Log.{commands, touches_object};
+ghost use Rattle.vk_model.specs.Log.{commands, touches_object, NoConflict};
+ghost use Rattle.vk_model.specs.Fitting.{NodeFits};
 ghost use Rattle.barriers.specs.declared.tracker.Tracker.{Tracker};
 ghost use Rattle.barriers.specs.Licence.{Fenced, barrier_due};
-ghost use Rattle.barriers.specs.Trackers.{due_by};
+ghost use Rattle.barriers.specs.Logs.{jointly};
+ghost use Rattle.barriers.specs.Trackers.{IsTouchOf, due_by};
 ghost use Rattle.barriers.specs.Recording.{handle, node_for, with_due, HasLayouts};
 ghost use Rattle.vk_model.specs.Meaning.{after_all};
 ghost use Rattle.back_core.specs.Link.{Link, created, wrote, enqueued, fetched, gave, kinds_of};
 ghost use Rattle.back_core.specs.Needs.{IsOfGroup, IsFresh};
 ghost use Rattle.back_core.specs.Answers.{Learns};
-ghost use Rattle.front_model.specs.Face.{Object, Waiting, Slot, Stored, Face, put_object, view, recorded, nodes_touch, whole_log};
-ghost use Rattle.front_model.specs.Stands.{Hands, no_hands, Holds, new_face, is_image_of, uses_of, host_touch, IsTrackedBy};
-ghost use Rattle.front_model.specs.Steps.{fresh_slot, with_nodes, MayRecord, IsNextBatch, flushed, with_object, stored_as, with_waiting, taken_from, with_read, KeepsContents, IsBehind, IsOrdered};
+ghost use Rattle.front_model.specs.declared.object.Object.{Object};
+ghost use Rattle.front_model.specs.Face.{Waiting, Slot, Stored, Face, put_object, view, recorded, nodes_touch, whole_log};
+ghost use Rattle.front_model.specs.Stands.{Hands, no_hands, Holds, new_face, is_image_of, uses_of, host_touch, IsTrackedBy, IsRecordable};
+ghost use Rattle.front_model.specs.Steps.{fresh_slot, with_nodes, MayRecord, IsNextBatch, flushed, with_object, stored_as, with_waiting, taken_from, with_read, KeepsContents, IsBehind, IsOrdered, IsTarget};
 
 use barriers::{
     due_barriers_fit, due_barriers_keep_logs_sound, no_barrier_is_licensed_twice,
@@ -99,6 +102,28 @@ pub fn front_steps_show()
 pub fn due_nodes_may_be_recorded()
     ensures node { (f : Face) (hands : Hands) (s : Link) (n : Node) → Holds f hands s → barrier_of n ≡ None → HasLayouts (is_image_of s) n →
         IsOrdered f s (with_due (is_image_of s) (uses_of f s) n) }
+    // a node that fits touches images with layouts, and buffers without
+    ensures layouts { (s : Link) (n : Node) → barrier_of n ≡ None → NodeFits s.kinds n → HasLayouts (is_image_of s) n }
+    // and in all, where it fits, there is room for it and two barriers, and nodes of other contexts do not conflict
+    ensures may { (f : Face) (hands : Hands) (s : Link) (index : ℕ) (n : Node) → Holds f hands s → barrier_of n ≡ None →
+        IsOfGroup f.group index → IsRecordable n → NodeFits s.kinds n → length (f.pending index) + 3 < 4294967294 →
+        ((t : Touch) → Contains (touches n) t → IsTarget f hands t.id.0) →
+        ((i : ℕ) → i ≢ index → NoConflict (with_due (is_image_of s) (uses_of f s) n) (f.pending i)) →
+        MayRecord f hands s index (with_due (is_image_of s) (uses_of f s) n) }
+    // they do not conflict where the node does not, and nothing else touches an object for which a barrier is due
+    ensures apart { (f : Face) (s : Link) (n : Node) (others : List Node) → NoConflict (n ∷ []) others →
+        ((t : Touch) (barrier : Barrier) → Contains (touches n) t →
+        barrier_due t.id (is_image_of s t.id.0) (uses_of f s t.id.0) (jointly n t) ≡ Some barrier → nodes_touch others t.id.0 ≡ false) →
+        NoConflict (with_due (is_image_of s) (uses_of f s) n) others }
+    // nor where nothing else touches what the node touches
+    ensures parted { (f : Face) (s : Link) (n : Node) (others : List Node) →
+        ((t : Touch) → Contains (touches n) t → nodes_touch others t.id.0 ≡ false) →
+        NoConflict (with_due (is_image_of s) (uses_of f s) n) others }
+    // a barrier alone, of an object that no other context touches
+    ensures alone { (f : Face) (hands : Hands) (s : Link) (index : ℕ) (t : Touch) → Holds f hands s →
+        IsTouchOf t.id (is_image_of s t.id.0) t → IsOfGroup f.group index → length (f.pending index) + 1 < 4294967294 →
+        IsTarget f hands t.id.0 → ((i : ℕ) → i ≢ index → nodes_touch (f.pending i) t.id.0 ≡ false) →
+        MayRecord f hands s index (node_for (barrier_due t.id (is_image_of s t.id.0) (uses_of f s t.id.0) t)) }
     ensures host { (f : Face) (hands : Hands) (s : Link) (id : ℕ) → Holds f hands s → is_image_of s id ≡ false →
         IsOrdered f s (node_for (barrier_due (handle id) (is_image_of s id) (uses_of f s id) (host_touch id))) }
     // such barriers of buffers leave all contents

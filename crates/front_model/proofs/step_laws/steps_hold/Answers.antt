@@ -8,7 +8,7 @@ pub returns : goal.returns
 returns c = record {
   starts = new_holds;
   creates = created_holds;
-  writes = λ f hands s id at bytes h none. wrote_holds f hands s id at bytes h;
+  writes = λ f hands s id at bytes h none len made. wrote_holds f hands s id at bytes h len made;
   fetches = λ f hands s id at bytes h target untouched known. fetched_holds f hands s id at bytes h target untouched known c.host_reads_are_uses.ensures.fenced c.trackers_take_uses.ensures.access;
   learns = learned_holds;
   enqueues = λ f hands s index batch h own next room. enqueued_holds f hands s index batch h own next c.lists_change_places.ensures.sound c.uses_are_low.ensures.batch c.uses_change_places.ensures.nodes c.uses_change_places.ensures.tracks c.uses_change_places.ensures.fenced room;
