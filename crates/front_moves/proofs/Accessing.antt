@@ -1,8 +1,8 @@
 -- Two stores that took in the accesses of a copy.
 use Rattle.vk_types.specs.Accesses.{transfer_read, transfer_write}
 use Rattle.std.proofs.lemmas.Bool.{cases_eq, cond-true, cond-false, eq-eqb, ne_eqb, or_left, or_right, or_from, both_ways}
-use Rattle.buffer_helper.specs.Buffers.{BufferStore}
-use Rattle.front_moves.specs.Buffers.{used, ChangesOne}
+use Rattle.object_helper.specs.Objects.{ObjectStore}
+use Rattle.front_moves.specs.Objects.{used, ChangesOne}
 use Rattle.front_moves.specs.Recording.{read_write, copy_access}
 use Rattle.std.proofs.Common.{◌≡◌, ◌≢◌, ℕ, ◌==◌, true, false, refl, sym, ◌∙◌, ap, inl, inr}
 use Rattle.std.specs.Prelude.{◌⊎◌, ◌||◌, if◌then◌else◌, Result, Ok, Err, OnErr}
@@ -10,7 +10,7 @@ use Rattle.std.specs.Option.{option_map}
 use Rattle.vk_types.specs.declared.batches.QueueSerial.{QueueSerial}
 use Rattle.tables.specs.Table.{Entries, entry}
 
-pub used_both : (src dst : ℕ) (serial : QueueSerial) (old mid new : Entries BufferStore) → (src == dst) ≡ false → ChangesOne src (used transfer_read serial) old mid → ChangesOne dst (used transfer_write serial) mid new →
+pub used_both : (src dst : ℕ) (serial : QueueSerial) (old mid new : Entries ObjectStore) → (src == dst) ≡ false → ChangesOne src (used transfer_read serial) old mid → ChangesOne dst (used transfer_write serial) mid new →
     (k : ℕ) → entry k new ≡ (if (k == src) || (k == dst) then option_map (used (copy_access src dst k) serial) (entry k old) else entry k old)
 used_both src dst serial old mid new differ first second k = go (cases_eq k src) (cases_eq k dst)
   where

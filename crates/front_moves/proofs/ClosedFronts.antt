@@ -4,17 +4,20 @@ use Rattle.std.specs.Prelude.{◌⊎◌, Option, Some, None}
 use Rattle.std.specs.Option.{option_map}
 use Rattle.std.proofs.lemmas.Bool.{cases_Bool, cases_eq, cases_lt, cond-true, cond-false, false≢true, ne_eqb}
 use Rattle.tables.specs.Table.{Entries, entry}
-use Rattle.buffer_helper.specs.Buffers.{BufferStore}
+use Rattle.object_helper.specs.Objects.{ObjectStore}
 use Rattle.resource_use.specs.Uses.{number_of}
 use Rattle.submit_queue.specs.Histories.{last_number}
 use Rattle.back_core.specs.Own.{batches_of}
 use Rattle.back_core.specs.Link.{Link, put, abandoned}
-use Rattle.front_model.specs.Face.{Object, Buffer, Texture, Renderbuffer, Stored, Face, nodes_touch}
+use Rattle.front_model.specs.declared.object.Object.{Object}
+use Rattle.front_model.specs.Face.{Stored, Face, nodes_touch}
 use Rattle.front_model.specs.Stands.{Store, no_hands, Holds, Owns, IsKnown, IsPastUse}
 use Rattle.front_model.proofs.Base.{put_at, put-other}
 use Rattle.front_model.proofs.LinkSteps.{own_or_not}
 use Rattle.front_model.proofs.Needs.{at_back_licensed}
-use Rattle.front_moves.specs.Buffers.{stored_of, objects_of, TakesOne}
+use Rattle.front_moves.specs.Objects.{key_of, stored_of, objects_of, TakesOne}
+use Rattle.front_moves.proofs.Keys.{object_at, key_at}
+use Rattle.front_moves.proofs.ObjectStores.{stored_at}
 use Rattle.front_moves.specs.Core.{IsFlushed}
 use Rattle.front_moves.specs.Ending.{HasClosed, HasLetGo}
 
@@ -77,19 +80,22 @@ has_closed f s h pending stored = record {
 
 -- Stores are let go one after another
 
--- two buffers of one handle are one
-one_owner : (buffers : Entries BufferStore) (s : Link) (b c : ℕ) (x y : BufferStore) → Owns (objects_of buffers) s → entry b buffers ≡ Some x → entry c buffers ≡ Some y →
+-- the stores of one handle are under one key
+one_owner : (stores : Entries ObjectStore) (s : Link) (b c : ℕ) (x y : ObjectStore) → Owns (objects_of stores) s → entry b stores ≡ Some x → entry c stores ≡ Some y →
     x.handle.0 ≡ y.handle.0 → b ≡ c
-one_owner buffers s b c x y owns at also same =
-    let one : owns.owner x.handle.0 ≡ Store (Buffer b) = (owns.each (Buffer b) (stored_of x) (ap (option_map stored_of) at)).owned in
-    let two : owns.owner y.handle.0 ≡ Store (Buffer c) = (owns.each (Buffer c) (stored_of y) (ap (option_map stored_of) also)).owned in
-    let both : Store (Buffer b) ≡ Store (Buffer c) = sym one ∙ ap owns.owner same ∙ two in
-    cc
+one_owner stores s b c x y owns at also same =
+    let one : owns.owner x.handle.0 ≡ Store (object_at b) = (owns.each (object_at b) (stored_of x) (stored_at stores b x at)).owned in
+    let two : owns.owner y.handle.0 ≡ Store (object_at c) = (owns.each (object_at c) (stored_of y) (stored_at stores c y also)).owned in
+    let both : Store (object_at b) ≡ Store (object_at c) = sym one ∙ ap owns.owner same ∙ two in
+    sym (key_at b) ∙ ap key_of (same_owner (object_at b) (object_at c) both) ∙ key_at c
+  where
+    same_owner : (o q : Object) → Store o ≡ Store q → o ≡ q
+    same_owner o q e = cc
 
-pub lets_none_go : (buffers : Entries BufferStore) (s : Link) → Owns (objects_of buffers) s → HasLetGo buffers buffers s s
-lets_none_go buffers s owns = record {
+pub lets_none_go : (stores : Entries ObjectStore) (s : Link) → Owns (objects_of stores) s → HasLetGo stores stores s s
+lets_none_go stores s owns = record {
   rest = refl;
-  held = λ b x at. (at, (owns.each (Buffer b) (stored_of x) (ap (option_map stored_of) at)).held);
+  held = λ b x at. (at, (owns.each (object_at b) (stored_of x) (stored_at stores b x at)).held);
   others = λ b x at. inl at;
 }
 
@@ -101,9 +107,9 @@ left_after c b o new is = elim (cases_eq c b) [
 ]
 
 -- one more
-pub lets_one_go : (buffers old new : Entries BufferStore) (s t : Link) (b : ℕ) (store : BufferStore) → Owns (objects_of buffers) s → HasLetGo buffers old s t → TakesOne b store old new →
-    HasLetGo buffers new s (abandoned t store.handle.0)
-lets_one_go buffers old new s t b store owns before takes = record {
+pub lets_one_go : (stores old new : Entries ObjectStore) (s t : Link) (b : ℕ) (store : ObjectStore) → Owns (objects_of stores) s → HasLetGo stores old s t → TakesOne b store old new →
+    HasLetGo stores new s (abandoned t store.handle.0)
+lets_one_go stores old new s t b store owns before takes = record {
   rest = ap (λ (x : Link). record x { held = put t.held store.handle.0 false }) before.rest;
   held = λ c x at. still c x at (left_after c b (entry c old) (entry c new) (takes.others c));
   others = λ c x at. gone c x at (before.others c x at) (left_after c b (entry c old) (entry c new) (takes.others c));
@@ -112,41 +118,39 @@ lets_one_go buffers old new s t b store owns before takes = record {
     id : ℕ
     id = store.handle.0
 
-    was : entry b buffers ≡ Some store
+    was : entry b stores ≡ Some store
     was = (before.held b store takes.taken).0
 
-    still : (c : ℕ) (x : BufferStore) → entry c new ≡ Some x → ((c ≡ b) × (entry c new ≡ None)) ⊎ ((c ≢ b) × (entry c new ≡ entry c old)) →
-        (entry c buffers ≡ Some x) × (put t.held id false x.handle.0 ≡ true)
+    still : (c : ℕ) (x : ObjectStore) → entry c new ≡ Some x → ((c ≡ b) × (entry c new ≡ None)) ⊎ ((c ≢ b) × (entry c new ≡ entry c old)) →
+        (entry c stores ≡ Some x) × (put t.held id false x.handle.0 ≡ true)
     still c x at (inl none) = let both : None ≡ Some x = sym none.1 ∙ at in cc
     still c x at (inr other) =
-        let one : (entry c buffers ≡ Some x) × (t.held x.handle.0 ≡ true) = before.held c x (sym other.1 ∙ at) in
-        (one.0, put-other t.held id false x.handle.0 (λ same. other.0 (one_owner buffers s c b x store owns one.0 was same)) ∙ one.1)
+        let one : (entry c stores ≡ Some x) × (t.held x.handle.0 ≡ true) = before.held c x (sym other.1 ∙ at) in
+        (one.0, put-other t.held id false x.handle.0 (λ same. other.0 (one_owner stores s c b x store owns one.0 was same)) ∙ one.1)
 
-    let_go : (x : BufferStore) → t.held x.handle.0 ≡ false → put t.held id false x.handle.0 ≡ false
+    let_go : (x : ObjectStore) → t.held x.handle.0 ≡ false → put t.held id false x.handle.0 ≡ false
     let_go x not = elim (cases_eq x.handle.0 id) [
       | inl same ↦ put_at t.held id false x.handle.0 same
       | inr other ↦ put-other t.held id false x.handle.0 other ∙ not
     ]
 
-    gone : (c : ℕ) (x : BufferStore) → entry c buffers ≡ Some x → (entry c old ≡ Some x) ⊎ (t.held x.handle.0 ≡ false) →
+    gone : (c : ℕ) (x : ObjectStore) → entry c stores ≡ Some x → (entry c old ≡ Some x) ⊎ (t.held x.handle.0 ≡ false) →
         ((c ≡ b) × (entry c new ≡ None)) ⊎ ((c ≢ b) × (entry c new ≡ entry c old)) → (entry c new ≡ Some x) ⊎ (put t.held id false x.handle.0 ≡ false)
     gone c x at (inr not) place = inr (let_go x not)
     gone c x at (inl left) (inr other) = inl (other.1 ∙ left)
     gone c x at (inl left) (inl taken) =
-        let both : Some store ≡ Some x = sym was ∙ ap (λ q. entry q buffers) (sym taken.0) ∙ at in
+        let both : Some store ≡ Some x = sym was ∙ ap (λ q. entry q stores) (sym taken.0) ∙ at in
         inr (put_at t.held id false x.handle.0 (let same : x.handle.0 ≡ store.handle.0 = cc in same))
 
 -- all of them
-pub lets_all_go : (buffers : Entries BufferStore) (s t : Link) (o : Object) (x : Stored) → HasLetGo buffers [] s t → objects_of buffers o ≡ Some x → t.held x.handle ≡ false
-lets_all_go buffers s t (Texture n) x all at = cc
-lets_all_go buffers s t (Renderbuffer n) x all at = cc
-lets_all_go buffers s t (Buffer b) x all at = go (entry b buffers) refl at
+pub lets_all_go : (stores : Entries ObjectStore) (s t : Link) (o : Object) (x : Stored) → HasLetGo stores [] s t → objects_of stores o ≡ Some x → t.held x.handle ≡ false
+lets_all_go stores s t o x all at = go (entry (key_of o) stores) refl at
   where
-    go : (e : Option BufferStore) → entry b buffers ≡ e → option_map stored_of e ≡ Some x → t.held x.handle ≡ false
+    go : (e : Option ObjectStore) → entry (key_of o) stores ≡ e → option_map stored_of e ≡ Some x → t.held x.handle ≡ false
     go None is none = cc
     go (Some store) is some =
         let same : store.handle.0 ≡ x.handle = let both : stored_of store ≡ x = cc in ap (λ (y : Stored). y.handle) both in
-        elim (all.others b store is) [
+        elim (all.others (key_of o) store is) [
           | inl left ↦ cc
           | inr not ↦ subst (λ id. t.held id ≡ false) same not
         ]

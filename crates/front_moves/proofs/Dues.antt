@@ -28,8 +28,8 @@ use Rattle.front_model.specs.Stands.{is_image_of, uses_of, IsTrackedBy}
 use Rattle.front_model.specs.Steps.{IsOrdered, IsBehind}
 use Rattle.std.proofs.lemmas.Bool.{cases_eq, cond-true, cond-false, eq-eqb, ne_eqb, eqb-true, or_cases, false≢true}
 use Rattle.back_core.specs.Link.{Link}
-use Rattle.buffer_helper.specs.Buffers.{BufferStore, access_of}
-use Rattle.front_moves.specs.Buffers.{stored_of}
+use Rattle.object_helper.specs.Objects.{ObjectStore, access_of}
+use Rattle.front_moves.specs.Objects.{key_of, stored_of}
 use Rattle.front_moves.specs.Core.{CoreParts, face}
 use Rattle.front_moves.specs.Recording.{IsDueBefore, IsFence, behind_both, read_write, copy_access}
 use Rattle.std.specs.Prelude.{◌+◌}
@@ -39,10 +39,12 @@ use Rattle.std.specs.Option.{option_map}
 use Rattle.vk_types.specs.declared.handles.Kind.TheVariants as kind
 use Rattle.vk_types.specs.declared.accesses.Layout.{Layout}
 use Rattle.tables.specs.Table.{entry}
-use Rattle.front_model.specs.Face.{Buffer, Face, is_image}
+use Rattle.front_model.specs.declared.object.Object.TheVariants.{Buffer}
+use Rattle.object_helper.specs.Objects.{is_image}
+use Rattle.front_model.specs.Face.{Face}
 use Rattle.front_model.specs.Stands.{Hands, Holds}
 use Rattle.front_moves.proofs.Recordable.{copy_node}
-use Rattle.front_moves.proofs.BufferStores.{IsStore, store_at, Distinct}
+use Rattle.front_moves.proofs.ObjectStores.{IsStore, store_at, Distinct}
 use Rattle.front_moves.proofs.Recorded.{IsAccessBy}
 use Rattle.front_moves.proofs.Fencing.{source_uses, target_uses, within_uses, due_apart, due_within, copy_layouts, copy_buffers}
 
@@ -111,6 +113,7 @@ module _ (c : CoreParts) (hands : Hands) (s : Link) (h : Holds (face c) hands s)
   no_image b id len of =
       ap (λ i. is_image_of s i) (sym of.handle)
       ∙ ap (λ k. is_image (unwrap_or k (kind.Buffer 0))) (h.objects (Buffer b) (stored_of of.store) (store_at c b of.store of.is)).slot.kind
+      ∙ ap is_image of.is_buffer
 
   -- what the tracker of a store tells is what is due
   pub store_due : TellsDue → (b : ℕ) (id : HandleId) (len : ℕ) → (of : IsStore c b id len) → (access : Access) →
@@ -120,7 +123,7 @@ module _ (c : CoreParts) (hands : Hands) (s : Link) (h : Holds (face c) hands s)
       ∙ ap (λ (i : HandleId). barrier_due i (is_image_of s i.0) (uses_of (face c) s i.0) (access_of i access)) (same_handle of.store.handle id of.handle)
 
 -- the store that is at a place is the one that a clause speaks of
-pub if_there : (P : BufferStore → Type 0) (o : Option BufferStore) (x : BufferStore) → IfSome o P → o ≡ Some x → P x
+pub if_there : (P : ObjectStore → Type 0) (o : Option ObjectStore) (x : ObjectStore) → IfSome o P → o ≡ Some x → P x
 if_there P (Some y) x p e = subst P (let is : y ≡ x = cc in is) p
 if_there P None x p e = absurd cc
 
@@ -131,9 +134,9 @@ pub record Copied (c : CoreParts) (s : Link) (src dst : ℕ) (one other : Option
   pub second : IsFence to other
   pub ordered : IsOrdered (face c) s (behind_both one other n)
   pub behind : IsBehind (behind_both one other n) n
-  pub accesses : (b : ℕ) (x : BufferStore) → entry b c.buffers ≡ Some x → ((b == src) || (b == dst)) ≡ true → IsAccessBy (behind_both one other n) x (copy_access src dst b)
+  pub accesses : (b : ℕ) (x : ObjectStore) → entry b c.stores ≡ Some x → ((b == src) || (b == dst)) ≡ true → IsAccessBy (behind_both one other n) x (copy_access src dst b)
 
-module _ (tells : TellsDue) (due_of : DueOf) (layouts : DueLayouts) (orders : NodeOrdered) (behind : NodeBehind) (c : CoreParts) (hands : Hands) (s : Link) (h : Holds (face c) hands s) (src dst : ℕ) (one other : Option Barrier) (from to : HandleId) (src_at dst_at size src_len dst_len : ℕ) (a : IsStore c src from src_len) (b : IsStore c dst to dst_len) (due : IsDueBefore src dst c.buffers one other) where
+module _ (tells : TellsDue) (due_of : DueOf) (layouts : DueLayouts) (orders : NodeOrdered) (behind : NodeBehind) (c : CoreParts) (hands : Hands) (s : Link) (h : Holds (face c) hands s) (src dst : ℕ) (one other : Option Barrier) (from to : HandleId) (src_at dst_at size src_len dst_len : ℕ) (a : IsStore c src from src_len) (b : IsStore c dst to dst_len) (due : IsDueBefore (key_of (Buffer src)) (key_of (Buffer dst)) c.stores one other) where
   abbrev n : Node
   n = copy_node from src_at to dst_at size
 
@@ -152,17 +155,17 @@ module _ (tells : TellsDue) (due_of : DueOf) (layouts : DueLayouts) (orders : No
   all_behind : IsBehind (with_due (is_image_of s) (uses_of (face c) s) (copy_node from src_at to dst_at size)) (copy_node from src_at to dst_at size)
   all_behind = behind (face c) s (copy_node from src_at to dst_at size) has_layouts (copy_buffers from src_at to dst_at size (is_image_of s) image_a image_b) refl
 
-  same_store : (k : ℕ) (x : BufferStore) (id : HandleId) (len : ℕ) → entry k c.buffers ≡ Some x → (of : IsStore c k id len) → of.store ≡ x
-  same_store k x id len at of = let both : Some of.store ≡ Some x = sym of.is ∙ at in cc
+  same_store : (b : ℕ) (x : ObjectStore) (id : HandleId) (len : ℕ) → entry (key_of (Buffer b)) c.stores ≡ Some x → (of : IsStore c b id len) → of.store ≡ x
+  same_store b x id len at of = let both : Some of.store ≡ Some x = sym of.is ∙ at in cc
 
   -- what a store is to the nodes, by what it is to its handle
-  access_by : (nodes : List Node) (k : ℕ) (x : BufferStore) (id : HandleId) (len : ℕ) (access : Access) (o : Option Barrier) → entry k c.buffers ≡ Some x → (of : IsStore c k id len) → o ≡ due_by of.store.tracker (access_of of.store.handle access) →
+  access_by : (nodes : List Node) (b : ℕ) (x : ObjectStore) (id : HandleId) (len : ℕ) (access : Access) (o : Option Barrier) → entry (key_of (Buffer b)) c.stores ≡ Some x → (of : IsStore c b id len) → o ≡ due_by of.store.tracker (access_of of.store.handle access) →
       uses_in (commands 0 nodes) id.0 ≡ fenced_by o ++ Accessed access ∷ [] → IsAccessBy nodes x access
-  access_by nodes k x id len access o at of is uses =
-      subst (λ (y : BufferStore). IsAccessBy nodes y access) (same_store k x id len at of)
+  access_by nodes b x id len access o at of is uses =
+      subst (λ (y : ObjectStore). IsAccessBy nodes y access) (same_store b x id len at of)
       (ap (uses_in (commands 0 nodes)) of.handle ∙ (uses ∙ ap (λ d. fenced_by d ++ Accessed access ∷ []) is))
 
-  apart : src ≢ dst → from.0 ≢ to.0 → Copied c s src dst one other from to (copy_node from src_at to dst_at size)
+  apart : (key_of (Buffer src)) ≢ (key_of (Buffer dst)) → from.0 ≢ to.0 → Copied c s (key_of (Buffer src)) (key_of (Buffer dst)) one other from to (copy_node from src_at to dst_at size)
   apart ne ids = record {
     first = first;
     second = second;
@@ -172,10 +175,10 @@ module _ (tells : TellsDue) (due_of : DueOf) (layouts : DueLayouts) (orders : No
   }
     where
       one_is : one ≡ due_by a.store.tracker (access_of a.store.handle transfer_read)
-      one_is = if_there (λ x. one ≡ due_by x.tracker (access_of x.handle transfer_read)) (entry src c.buffers) a.store (due.source ne) a.is
+      one_is = if_there (λ x. one ≡ due_by x.tracker (access_of x.handle transfer_read)) (entry (key_of (Buffer src)) c.stores) a.store (due.source ne) a.is
 
       other_is : other ≡ due_by b.store.tracker (access_of b.store.handle transfer_write)
-      other_is = if_there (λ x. other ≡ due_by x.tracker (access_of x.handle transfer_write)) (entry dst c.buffers) b.store (due.target ne) b.is
+      other_is = if_there (λ x. other ≡ due_by x.tracker (access_of x.handle transfer_write)) (entry (key_of (Buffer dst)) c.stores) b.store (due.target ne) b.is
 
       one_due : one ≡ barrier_due from (is_image_of s from.0) (uses_of (face c) s from.0) (access_of from transfer_read)
       one_due = one_is ∙ store_due c hands s h tells src from src_len a transfer_read
@@ -195,25 +198,25 @@ module _ (tells : TellsDue) (due_of : DueOf) (layouts : DueLayouts) (orders : No
           ∙ (ap (λ o. behind_both o (barrier_due to (is_image_of s to.0) (uses_of (face c) s to.0) (access_of to transfer_write)) (copy_node from src_at to dst_at size)) (sym one_due)
           ∙ ap (λ o. behind_both one o (copy_node from src_at to dst_at size)) (sym other_due))
 
-      at_source : (k : ℕ) (x : BufferStore) → entry k c.buffers ≡ Some x → k ≡ src → IsAccessBy (behind_both one other (copy_node from src_at to dst_at size)) x (copy_access src dst k)
+      at_source : (k : ℕ) (x : ObjectStore) → entry k c.stores ≡ Some x → k ≡ (key_of (Buffer src)) → IsAccessBy (behind_both one other (copy_node from src_at to dst_at size)) x (copy_access (key_of (Buffer src)) (key_of (Buffer dst)) k)
       at_source k x at e =
           subst (IsAccessBy (behind_both one other (copy_node from src_at to dst_at size)) x)
-          (sym (cond-false (src == dst) read_write (cond (k == src) transfer_read transfer_write) (ne_eqb src dst ne) ∙ cond-true (k == src) transfer_read transfer_write (eq-eqb k src e)))
-          (access_by (behind_both one other (copy_node from src_at to dst_at size)) src x from src_len transfer_read one (ap (λ j. entry j c.buffers) (sym e) ∙ at) a one_is (source_uses from src_at to dst_at size one other ids first second))
+          (sym (cond-false ((key_of (Buffer src)) == (key_of (Buffer dst))) read_write (cond (k == (key_of (Buffer src))) transfer_read transfer_write) (ne_eqb (key_of (Buffer src)) (key_of (Buffer dst)) ne) ∙ cond-true (k == (key_of (Buffer src))) transfer_read transfer_write (eq-eqb k (key_of (Buffer src)) e)))
+          (access_by (behind_both one other (copy_node from src_at to dst_at size)) src x from src_len transfer_read one (ap (λ j. entry j c.stores) (sym e) ∙ at) a one_is (source_uses from src_at to dst_at size one other ids first second))
 
-      at_target : (k : ℕ) (x : BufferStore) → entry k c.buffers ≡ Some x → k ≡ dst → IsAccessBy (behind_both one other (copy_node from src_at to dst_at size)) x (copy_access src dst k)
+      at_target : (k : ℕ) (x : ObjectStore) → entry k c.stores ≡ Some x → k ≡ (key_of (Buffer dst)) → IsAccessBy (behind_both one other (copy_node from src_at to dst_at size)) x (copy_access (key_of (Buffer src)) (key_of (Buffer dst)) k)
       at_target k x at e =
           subst (IsAccessBy (behind_both one other (copy_node from src_at to dst_at size)) x)
-          (sym (cond-false (src == dst) read_write (cond (k == src) transfer_read transfer_write) (ne_eqb src dst ne) ∙ cond-false (k == src) transfer_read transfer_write (ne_eqb k src (λ f. ne (sym f ∙ e)))))
-          (access_by (behind_both one other (copy_node from src_at to dst_at size)) dst x to dst_len transfer_write other (ap (λ j. entry j c.buffers) (sym e) ∙ at) b other_is (target_uses from src_at to dst_at size one other ids first second))
+          (sym (cond-false ((key_of (Buffer src)) == (key_of (Buffer dst))) read_write (cond (k == (key_of (Buffer src))) transfer_read transfer_write) (ne_eqb (key_of (Buffer src)) (key_of (Buffer dst)) ne) ∙ cond-false (k == (key_of (Buffer src))) transfer_read transfer_write (ne_eqb k (key_of (Buffer src)) (λ f. ne (sym f ∙ e)))))
+          (access_by (behind_both one other (copy_node from src_at to dst_at size)) dst x to dst_len transfer_write other (ap (λ j. entry j c.stores) (sym e) ∙ at) b other_is (target_uses from src_at to dst_at size one other ids first second))
 
-      accesses : (k : ℕ) (x : BufferStore) → entry k c.buffers ≡ Some x → ((k == src) || (k == dst)) ≡ true → IsAccessBy (behind_both one other (copy_node from src_at to dst_at size)) x (copy_access src dst k)
-      accesses k x at touched = elim (or_cases (k == src) (k == dst) touched) [
-        | inl e ↦ at_source k x at (eqb-true k src e)
-        | inr e ↦ at_target k x at (eqb-true k dst e)
+      accesses : (k : ℕ) (x : ObjectStore) → entry k c.stores ≡ Some x → ((k == (key_of (Buffer src))) || (k == (key_of (Buffer dst)))) ≡ true → IsAccessBy (behind_both one other (copy_node from src_at to dst_at size)) x (copy_access (key_of (Buffer src)) (key_of (Buffer dst)) k)
+      accesses k x at touched = elim (or_cases (k == (key_of (Buffer src))) (k == (key_of (Buffer dst))) touched) [
+        | inl e ↦ at_source k x at (eqb-true k (key_of (Buffer src)) e)
+        | inr e ↦ at_target k x at (eqb-true k (key_of (Buffer dst)) e)
       ]
 
-  within : src ≡ dst → from.0 ≡ to.0 → Copied c s src dst one other from to (copy_node from src_at to dst_at size)
+  within : (key_of (Buffer src)) ≡ (key_of (Buffer dst)) → from.0 ≡ to.0 → Copied c s (key_of (Buffer src)) (key_of (Buffer dst)) one other from to (copy_node from src_at to dst_at size)
   within same ids = record {
     first = first;
     second = λ barrier e. let no : ◌≡◌ {A = Option Barrier} None (Some barrier) = sym (due.within same).1 ∙ e in cc;
@@ -223,7 +226,7 @@ module _ (tells : TellsDue) (due_of : DueOf) (layouts : DueLayouts) (orders : No
   }
     where
       one_is : one ≡ due_by a.store.tracker (access_of a.store.handle read_write)
-      one_is = if_there (λ x. one ≡ due_by x.tracker (access_of x.handle read_write)) (entry src c.buffers) a.store (due.within same).0 a.is
+      one_is = if_there (λ x. one ≡ due_by x.tracker (access_of x.handle read_write)) (entry (key_of (Buffer src)) c.stores) a.store (due.within same).0 a.is
 
       one_due : one ≡ barrier_due from (is_image_of s from.0) (uses_of (face c) s from.0) (access_of from read_write)
       one_due = one_is ∙ store_due c hands s h tells src from src_len a read_write
@@ -237,15 +240,15 @@ module _ (tells : TellsDue) (due_of : DueOf) (layouts : DueLayouts) (orders : No
           ∙ (ap (λ o. behind_both o None (copy_node from src_at to dst_at size)) (sym one_due)
           ∙ ap (λ o. behind_both one o (copy_node from src_at to dst_at size)) (sym (due.within same).1))
 
-      accesses : (k : ℕ) (x : BufferStore) → entry k c.buffers ≡ Some x → ((k == src) || (k == dst)) ≡ true → IsAccessBy (behind_both one other (copy_node from src_at to dst_at size)) x (copy_access src dst k)
+      accesses : (k : ℕ) (x : ObjectStore) → entry k c.stores ≡ Some x → ((k == (key_of (Buffer src))) || (k == (key_of (Buffer dst)))) ≡ true → IsAccessBy (behind_both one other (copy_node from src_at to dst_at size)) x (copy_access (key_of (Buffer src)) (key_of (Buffer dst)) k)
       accesses k x at touched =
-          let here : k ≡ src = elim (or_cases (k == src) (k == dst) touched) [ inl e ↦ eqb-true k src e | inr e ↦ eqb-true k dst e ∙ sym same ] in
+          let here : k ≡ (key_of (Buffer src)) = elim (or_cases (k == (key_of (Buffer src))) (k == (key_of (Buffer dst))) touched) [ inl e ↦ eqb-true k (key_of (Buffer src)) e | inr e ↦ eqb-true k (key_of (Buffer dst)) e ∙ sym same ] in
           subst (IsAccessBy (behind_both one other (copy_node from src_at to dst_at size)) x)
-          (sym (cond-true (src == dst) read_write (cond (k == src) transfer_read transfer_write) (eq-eqb src dst same)))
-          (access_by (behind_both one other (copy_node from src_at to dst_at size)) src x from src_len read_write one (ap (λ j. entry j c.buffers) (sym here) ∙ at) a one_is (within_uses from src_at to dst_at size one other ids first (due.within same).1))
+          (sym (cond-true ((key_of (Buffer src)) == (key_of (Buffer dst))) read_write (cond (k == (key_of (Buffer src))) transfer_read transfer_write) (eq-eqb (key_of (Buffer src)) (key_of (Buffer dst)) same)))
+          (access_by (behind_both one other (copy_node from src_at to dst_at size)) src x from src_len read_write one (ap (λ j. entry j c.stores) (sym here) ∙ at) a one_is (within_uses from src_at to dst_at size one other ids first (due.within same).1))
 
-  pub copied : (src ≡ dst → from.0 ≡ to.0) → (from.0 ≡ to.0 → src ≡ dst) → Copied c s src dst one other from to (copy_node from src_at to dst_at size)
-  copied there back = elim (cases_eq src dst) [
+  pub copied : ((key_of (Buffer src)) ≡ (key_of (Buffer dst)) → from.0 ≡ to.0) → (from.0 ≡ to.0 → (key_of (Buffer src)) ≡ (key_of (Buffer dst))) → Copied c s (key_of (Buffer src)) (key_of (Buffer dst)) one other from to (copy_node from src_at to dst_at size)
+  copied there back = elim (cases_eq (key_of (Buffer src)) (key_of (Buffer dst))) [
     | inl same ↦ within same (there same)
     | inr ne ↦ apart ne (λ e. ne (back e))
   ]
@@ -256,9 +259,9 @@ pub record Uploaded (c : CoreParts) (s : Link) (b : ℕ) (due : Option Barrier) 
   pub fence : IsFence to due
   pub ordered : IsOrdered (face c) s (behind_both None due n)
   pub behind : IsBehind (behind_both None due n) n
-  pub accesses : (k : ℕ) (x : BufferStore) → entry k c.buffers ≡ Some x → (k == b) ≡ true → IsAccessBy (behind_both None due n) x transfer_write
+  pub accesses : (k : ℕ) (x : ObjectStore) → entry k c.stores ≡ Some x → (k == key_of (Buffer b)) ≡ true → IsAccessBy (behind_both None due n) x transfer_write
 
-module _ (tells : TellsDue) (due_of : DueOf) (layouts : DueLayouts) (orders : NodeOrdered) (behind : NodeBehind) (c : CoreParts) (s : Link) (len : ℕ) (from to : HandleId) (h : Holds (face c) (in_hand from.0 len) s) (b at size : ℕ) (due : Option Barrier) (of : IsStore c b to size) (is : IfSome (entry b c.buffers) (λ x. due ≡ due_by x.tracker (access_of x.handle transfer_write))) (ids : from.0 ≢ to.0) where
+module _ (tells : TellsDue) (due_of : DueOf) (layouts : DueLayouts) (orders : NodeOrdered) (behind : NodeBehind) (c : CoreParts) (s : Link) (len : ℕ) (from to : HandleId) (h : Holds (face c) (in_hand from.0 (kind.Buffer len)) s) (b at size : ℕ) (due : Option Barrier) (of : IsStore c b to size) (is : IfSome (entry (key_of (Buffer b)) c.stores) (λ x. due ≡ due_by x.tracker (access_of x.handle transfer_write))) (ids : from.0 ≢ to.0) where
   hand_slot : SlotStands (face c) s from.0 (fresh_slot from.0 (kind.Buffer len))
   hand_slot = (h.hands_stand from.0 (fresh_slot from.0 (kind.Buffer len)) (put-same no_hands from.0 (Some (fresh_slot from.0 (kind.Buffer len))))).stands
 
@@ -266,17 +269,17 @@ module _ (tells : TellsDue) (due_of : DueOf) (layouts : DueLayouts) (orders : No
   image_from = ap (λ k. is_image (unwrap_or k (kind.Buffer 0))) hand_slot.kind
 
   image_to : is_image_of s to.0 ≡ false
-  image_to = no_image c (in_hand from.0 len) s h b to size of
+  image_to = no_image c (in_hand from.0 (kind.Buffer len)) s h b to size of
 
   -- nothing is due before the first access of what is in hand
   none_due : None ≡ barrier_due from (is_image_of s from.0) (uses_of (face c) s from.0) (access_of from transfer_read)
   none_due = tells (face c) s from.0 (new_tracker (handle from.0) false) (access_of from transfer_read) hand_slot.tracked
 
   due_is : due ≡ due_by of.store.tracker (access_of of.store.handle transfer_write)
-  due_is = if_there (λ x. due ≡ due_by x.tracker (access_of x.handle transfer_write)) (entry b c.buffers) of.store is of.is
+  due_is = if_there (λ x. due ≡ due_by x.tracker (access_of x.handle transfer_write)) (entry (key_of (Buffer b)) c.stores) of.store is of.is
 
   due_due : due ≡ barrier_due to (is_image_of s to.0) (uses_of (face c) s to.0) (access_of to transfer_write)
-  due_due = due_is ∙ store_due c (in_hand from.0 len) s h tells b to size of transfer_write
+  due_due = due_is ∙ store_due c (in_hand from.0 (kind.Buffer len)) s h tells b to size of transfer_write
 
   has_layouts' : HasLayouts (is_image_of s) (copy_node from 0 to at len)
   has_layouts' = copy_layouts from 0 to at len (is_image_of s) image_from image_to
@@ -293,12 +296,12 @@ module _ (tells : TellsDue) (due_of : DueOf) (layouts : DueLayouts) (orders : No
   pub uploaded : Uploaded c s b due to (copy_node from 0 to at len)
   uploaded = record {
     fence = to_fence;
-    ordered = subst (IsOrdered (face c) s) upload_list (orders (face c) (in_hand from.0 len) s (copy_node from 0 to at len) h refl has_layouts');
+    ordered = subst (IsOrdered (face c) s) upload_list (orders (face c) (in_hand from.0 (kind.Buffer len)) s (copy_node from 0 to at len) h refl has_layouts');
     behind = subst (λ l. IsBehind l (copy_node from 0 to at len)) upload_list (behind (face c) s (copy_node from 0 to at len) has_layouts' (copy_buffers from 0 to at len (is_image_of s) image_from image_to) refl);
     accesses = λ k x at_k on.
-        let same : Some of.store ≡ Some x = sym of.is ∙ (ap (λ j. entry j c.buffers) (sym (eqb-true k b on)) ∙ at_k) in
+        let same : Some of.store ≡ Some x = sym of.is ∙ (ap (λ j. entry j c.stores) (sym (eqb-true k (key_of (Buffer b)) on)) ∙ at_k) in
         let one : of.store ≡ x = cc in
-        subst (λ (y : BufferStore). IsAccessBy (behind_both None due (copy_node from 0 to at len)) y transfer_write) one
+        subst (λ (y : ObjectStore). IsAccessBy (behind_both None due (copy_node from 0 to at len)) y transfer_write) one
         (ap (uses_in (commands 0 (behind_both None due (copy_node from 0 to at len)))) of.handle
         ∙ (target_uses from 0 to at len None due ids (λ barrier e. cc) to_fence
         ∙ ap (λ d. fenced_by d ++ Accessed transfer_write ∷ []) due_is));

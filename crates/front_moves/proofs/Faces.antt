@@ -10,12 +10,14 @@ use Rattle.vk_types.specs.declared.ops.Node.{Node}
 use Rattle.queue_serials.specs.Indexes.{IndexTable, last_of, with_last, unused}
 use Rattle.back_core.specs.Link.{put}
 use Rattle.back_core.specs.Needs.{IsOfGroup}
-use Rattle.front_model.specs.Face.{Object, Buffer, Texture, Renderbuffer, Stored, Face}
+use Rattle.front_model.specs.declared.object.Object.{Object}
+use Rattle.front_model.specs.declared.object.Object.TheVariants.{Buffer, Texture, Renderbuffer}
+use Rattle.front_model.specs.Face.{Stored, Face}
 use Rattle.front_model.specs.Stands.{new_face}
 use Rattle.front_model.specs.Steps.{flushed}
 use Rattle.front_model.proofs.Base.{put-other, put_at}
 use Rattle.front_model.proofs.LinkSteps.{own_or_not}
-use Rattle.front_moves.specs.Buffers.{objects_of}
+use Rattle.front_moves.specs.Objects.{objects_of}
 use Rattle.front_moves.specs.Core.{CoreParts, last_in, pending_in, face}
 
 abbrev the_face : ℕ → (ℕ → ℕ) → (ℕ → List Node) → (Object → Option Stored) → Face
@@ -93,7 +95,7 @@ emptied lists place = elim (cases_lt place (length lists)) [
 
 -- A front with nothing in it
 
-pub nothing_in : (group : ℕ) → group < 8 → face (record { indexes = unused group; pending = replicate 8 []; buffers = [] }) ≡ new_face group
+pub nothing_in : (group : ℕ) → group < 8 → face (record { indexes = unused group; pending = replicate 8 []; stores = [] }) ≡ new_face group
 nothing_in group few =
     let lists : List (List Node) = replicate 8 [] in
     let last : last_in (unused group) ≡ (λ i. 0) = fun_ext (λ i. elim (own_or_not group i) [
@@ -121,6 +123,6 @@ face_flushed c d index place number own at is kept e =
     let group : ℕ = c.indexes.group in
     ap face e
     ∙ faces_are group (last_in (with_last c.indexes index number)) (put (last_in c.indexes) index (last_in c.indexes index + 1))
-    (pending_in group (slice_set c.pending place [])) (put (pending_in group c.pending) index []) (objects_of c.buffers) (objects_of c.buffers)
+    (pending_in group (slice_set c.pending place [])) (put (pending_in group c.pending) index []) (objects_of c.stores) (objects_of c.stores)
     (last_in-with_last c.indexes index number own kept ∙ ap (put (last_in c.indexes) index) is)
     (pending_in-set group c.pending index place [] own at (emptied c.pending place)) refl

@@ -14,7 +14,7 @@ use Rattle.front_model.proofs.Tracking.{by_nodes-append}
 use Rattle.std.proofs.lemmas.Bool.{cond-true, cond-false, eq-eqb, ne_eqb, or_left, or_right}
 use Rattle.std.proofs.lemmas.List.{append-nil}
 use Rattle.std.proofs.lemmas.List.Elements.{All-contains, All-nil, All-cons}
-use Rattle.buffer_helper.specs.Buffers.{access_of}
+use Rattle.object_helper.specs.Objects.{access_of}
 use Rattle.front_moves.specs.Recording.{IsFence, behind_both, read_write}
 use Rattle.std.proofs.Common.{◌≡◌, ◌≢◌, ℕ, ◌+◌, ◌≤◌, ◌<◌, Bool, true, false, cond, eqb, List, [], ◌∷◌, ◌++◌, length, refl, sym, ◌∙◌, ap, subst, arith, inl, inr}
 use Rattle.std.specs.Prelude.{◌⊎◌, ◌||◌, not, map, is_some, All, Contains, Option, Some, None, IfSome, unwrap_or}
@@ -23,7 +23,8 @@ use Rattle.vk_types.specs.declared.handles.Kind.{Kind}
 use Rattle.vk_types.specs.declared.handles.Kind.TheVariants as kind
 use Rattle.vk_types.specs.declared.accesses.Layout.TheVariants.{Undefined}
 use Rattle.vk_model.specs.Log.{Command, commands, touches_object}
-use Rattle.front_model.specs.Face.{Face, nodes_touch, is_image}
+use Rattle.object_helper.specs.Objects.{is_image}
+use Rattle.front_model.specs.Face.{Face, nodes_touch}
 use Rattle.front_moves.proofs.Recordable.{copy_node}
 
 -- What barriers are to an object
@@ -69,7 +70,7 @@ module _ (src : HandleId) (src_at : ℕ) (dst : HandleId) (dst_at size : ℕ) wh
   copy_use : (id : ℕ) → (src.0 ≡ id) ⊎ (dst.0 ≡ id) → uses_in (commands 0 (copy ∷ [])) id ≡ Accessed (joint_access copy id) ∷ []
   copy_use id on = append-nil (uses_by id (Command 0 copy)) ∙ cond-true (touches_object copy id) (use_by copy id ∷ []) [] (copy_on id on)
 
-  -- The uses of the buffers by the copy behind what is due
+  -- The uses of the stores by the copy behind what is due
 
   module _ (one other : Option Barrier) where
     three : (id : ℕ) → uses_in (commands 0 (behind_both one other copy)) id ≡ (uses_in (commands 0 (node_for one)) id ++ uses_in (commands 0 (node_for other)) id) ++ uses_in (commands 0 (copy ∷ [])) id

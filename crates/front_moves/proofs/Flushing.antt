@@ -10,7 +10,8 @@ use Rattle.queue_serials.specs.Indexes.{last_of}
 use Rattle.back_core.specs.Own.{Enqueued, log_of}
 use Rattle.back_core.specs.Link.{Link, put, enqueued}
 use Rattle.back_core.specs.Needs.{IsOfGroup}
-use Rattle.front_model.specs.Face.{Object, Face, view}
+use Rattle.front_model.specs.declared.object.Object.{Object}
+use Rattle.front_model.specs.Face.{Face, view}
 use Rattle.front_model.specs.Stands.{no_hands, Holds, IsQuiet}
 use Rattle.front_model.specs.Steps.{IsNextBatch, flushed}
 use Rattle.front_model.proofs.Base.{put_at, put-other}

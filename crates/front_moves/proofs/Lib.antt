@@ -1,8 +1,8 @@
 pub mod AtBack
-pub mod BufferLaws
-pub mod BufferStores
+pub mod StoreLaws
+pub mod ObjectStores
 pub mod ClosedFronts
-pub mod EndedBuffers
+pub mod EndedObjects
 pub mod Faces
 pub mod Flushing
 pub mod Handing
@@ -19,3 +19,4 @@ pub mod Fencing
 pub mod Dues
 pub mod Accessing
 pub mod Sharing
+pub mod Keys

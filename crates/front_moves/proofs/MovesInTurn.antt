@@ -6,10 +6,13 @@ use Rattle.std.proofs.lemmas.Bool.{and_parts, leb-true, ltb-true}
 use Rattle.std.proofs.lemmas.List.{get_or_default}
 use Rattle.cells.specs.Contents.{UNDEFINED, cell_at, in_range}
 use Rattle.back_core.specs.Link.{Link}
-use Rattle.front_model.specs.Face.{Object, Buffer, Face, put_object, outline_at, view, recorded, nodes_touch}
+use Rattle.vk_types.specs.declared.handles.Kind.TheVariants as kind
+use Rattle.front_model.specs.declared.object.Object.{Object}
+use Rattle.front_model.specs.declared.object.Object.TheVariants.{Buffer}
+use Rattle.front_model.specs.Face.{Face, put_object, outline_at, view, recorded, nodes_touch}
 use Rattle.front_model.specs.Stands.{Moved, IsQuiet}
 use Rattle.front_model.specs.Wanted.{with_bytes, with_copy}
-use Rattle.front_moves.specs.Core.{HasStore, HasFresh, IsQuietBut}
+use Rattle.front_moves.specs.Core.{HasBytes, HasFresh, IsQuietBut}
 
 -- what is shown and quiet is as before
 abbrev pub IsSame : Face → Face → Link → Link → Type 0
@@ -23,13 +26,13 @@ same_then f g h s t u a b = record {
   still = λ o quiet. b.still o (a.still o quiet);
 }
 
-pub store_kept : (f g : Face) (s t : Link) (b size : ℕ) → IsSame f g s t → HasStore f b size → HasStore g b size
+pub store_kept : (f g : Face) (s t : Link) (b size : ℕ) → IsSame f g s t → HasBytes f b size → HasBytes g b size
 store_kept f g s t b size same has = ap (λ o. o (Buffer b)) same.outlines_are ∙ has
 
 -- a copy after what changes nothing
 pub copy_then : (f g h : Face) (s t u : Link) (src src_at dst dst_at size : ℕ) → IsSame f g s t →
-    Moved h u (put_object (view g t) (Buffer dst) (with_copy (view g t (Buffer dst)) dst_at size (view g t (Buffer src)) src_at)) (outline_at g) (λ o. IsQuietBut g t dst o × (o ≢ Buffer src)) →
-    Moved h u (put_object (view f s) (Buffer dst) (with_copy (view f s (Buffer dst)) dst_at size (view f s (Buffer src)) src_at)) (outline_at f) (λ o. IsQuietBut f s dst o × (o ≢ Buffer src))
+    Moved h u (put_object (view g t) (Buffer dst) (with_copy (view g t (Buffer dst)) dst_at size (view g t (Buffer src)) src_at)) (outline_at g) (λ o. IsQuietBut g t (Buffer dst) o × (o ≢ Buffer src)) →
+    Moved h u (put_object (view f s) (Buffer dst) (with_copy (view f s (Buffer dst)) dst_at size (view f s (Buffer src)) src_at)) (outline_at f) (λ o. IsQuietBut f s (Buffer dst) o × (o ≢ Buffer src))
 copy_then f g h s t u src src_at dst dst_at size a b = record {
   holds = b.holds;
   view_is = b.view_is ∙ ap (λ (v : Object → ℕ → ℕ). put_object v (Buffer dst) (with_copy (v (Buffer dst)) dst_at size (v (Buffer src)) src_at)) a.view_is;
@@ -51,9 +54,9 @@ cells_are old at bytes = fun_ext (λ i. go i (in_range at (length bytes) i) refl
     go i false inside = refl
 
 -- an upload after what changes nothing
-pub upload_then : (f g h : Face) (s t v u : Link) (b at id : ℕ) (bytes : List ℕ) → IsSame f g s t → HasFresh g t v id (length bytes) (Some bytes) →
-    Moved h u (put_object (view g v) (Buffer b) (with_copy (view g v (Buffer b)) at (length bytes) (recorded g v id) 0)) (outline_at g) (IsQuietBut g v b) →
-    Moved h u (put_object (view f s) (Buffer b) (with_bytes (view f s (Buffer b)) at bytes)) (outline_at f) (IsQuietBut f s b)
+pub upload_then : (f g h : Face) (s t v u : Link) (b at id : ℕ) (bytes : List ℕ) → IsSame f g s t → HasFresh g t v id (kind.Buffer (length bytes)) (Some bytes) →
+    Moved h u (put_object (view g v) (Buffer b) (with_copy (view g v (Buffer b)) at (length bytes) (recorded g v id) 0)) (outline_at g) (IsQuietBut g v (Buffer b)) →
+    Moved h u (put_object (view f s) (Buffer b) (with_bytes (view f s (Buffer b)) at bytes)) (outline_at f) (IsQuietBut f s (Buffer b))
 upload_then f g h s t v u b at id bytes a fresh m = record {
   holds = m.holds;
   view_is = m.view_is

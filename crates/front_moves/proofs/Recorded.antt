@@ -1,4 +1,4 @@
--- The front after nodes on buffers were added and the stores of the buffers noted their use.
+-- The front after nodes were added and the stores of the objects noted their use.
 use Rattle.barriers.specs.Recording.{handle}
 use mathlib.Core.Path.{fun_ext}
 use Rattle.std.proofs.Common.{◌≡◌, ◌≢◌, ℕ, ◌+◌, ◌-◌, ◌*◌, ◌<◌, ◌≤◌, ◌==◌, max, Bool, true, false, cond, List, [], ◌∷◌, ◌++◌, length, refl, sym, ◌∙◌, ap, subst, arith, inl, inr}
@@ -7,14 +7,13 @@ use Rattle.std.specs.Option.{option_map}
 use Rattle.std.proofs.lemmas.Bool.{cases_eq, cond-true, cond-false, eq-eqb, ne_eqb, eqb-true, and_from, and_parts, and_right, le-leb, lt-ltb, leb-true}
 use Rattle.std.proofs.lemmas.List.{get_or-set_same, get_or-set_other}
 use Rattle.cells.specs.Contents.{in_range}
-use Rattle.vk_types.specs.declared.handles.Kind.TheVariants as kind
 use Rattle.vk_types.specs.declared.ops.Node.{Node}
 use Rattle.vk_types.specs.declared.batches.QueueSerial.{QueueSerial}
 use Rattle.queue_serials.specs.Indexes.{IndexTable}
 use Rattle.tables.specs.Table.{Entries, entry}
 use Rattle.resource_use.specs.Uses.{number_of, noted}
 use Rattle.resource_use.proofs.Noting.{number_of-noted}
-use Rattle.buffer_helper.specs.Buffers.{BufferStore, access_of}
+use Rattle.object_helper.specs.Objects.{ObjectStore, access_of}
 use Rattle.vk_types.specs.Accesses.{host_read}
 use Rattle.vk_types.specs.declared.accesses.Access.{Access}
 use Rattle.vk_types.specs.declared.regions.Barrier.{Barrier}
@@ -29,12 +28,15 @@ use Rattle.submit_queue.specs.Histories.{last_number}
 use Rattle.back_core.specs.Own.{batches_of, last_use}
 use Rattle.back_core.specs.Link.{Link, put}
 use Rattle.back_core.specs.Needs.{IsOfGroup}
-use Rattle.front_model.specs.Face.{Object, Buffer, Texture, Renderbuffer, Stored, Face, outline, outline_at, nodes_touch}
+use Rattle.front_model.specs.declared.object.Object.{Object}
+use Rattle.front_model.specs.Face.{Stored, Face, outline, outline_at, nodes_touch}
 use Rattle.front_model.specs.Stands.{Hands, Holds, use_of}
 use Rattle.front_model.specs.Steps.{noted_store, with_nodes}
 use Rattle.front_model.proofs.Base.{put-same, put-other}
-use Rattle.front_moves.specs.Buffers.{stored_of, objects_of, used, fenced_in, with_use, ChangesOne}
+use Rattle.front_moves.specs.Objects.{key_of, stored_of, objects_of, used, fenced_in, with_use, ChangesOne}
 use Rattle.front_moves.specs.Core.{CoreParts, face, last_in, pending_in}
+use Rattle.front_moves.proofs.Keys.{object_at}
+use Rattle.front_moves.proofs.ObjectStores.{stored_at}
 use Rattle.front_moves.specs.Recording.{IsNextSerial, IsRecorded, IsAccessed, IsOpened}
 
 -- What is pending
@@ -75,7 +77,7 @@ pending_recorded group lists index place nodes own is eight = fun_ext (λ i. go 
 -- Uses
 
 -- a noted number that is above the one that was there
-uses_noted : (x : BufferStore) (serial : QueueSerial) (i : ℕ) → number_of x.uses serial.index ≤ serial.number → number_of (noted x.uses serial) i ≡ cond (i == serial.index) serial.number (number_of x.uses i)
+uses_noted : (x : ObjectStore) (serial : QueueSerial) (i : ℕ) → number_of x.uses serial.index ≤ serial.number → number_of (noted x.uses serial) i ≡ cond (i == serial.index) serial.number (number_of x.uses i)
 uses_noted x serial i low = number_of-noted x.uses serial i ∙ go (cases_eq i serial.index)
   where
     go : (i ≡ serial.index) ⊎ (i ≡ serial.index → ⊥) → cond (serial.index == i) (max (number_of x.uses i) serial.number) (number_of x.uses i) ≡ cond (i == serial.index) serial.number (number_of x.uses i)
@@ -92,12 +94,12 @@ and_true : (b : Bool) → (b && true) ≡ b
 and_true true = refl
 and_true false = refl
 
-store_noted : (x : BufferStore) (serial : QueueSerial) (nodes : List Node) (t : Bool) → nodes_touch nodes x.handle.0 ≡ t → number_of x.uses serial.index ≤ serial.number →
+store_noted : (x : ObjectStore) (serial : QueueSerial) (nodes : List Node) (t : Bool) → nodes_touch nodes x.handle.0 ≡ t → number_of x.uses serial.index ≤ serial.number →
     option_map stored_of (cond t (Some (with_use serial nodes x)) (Some x)) ≡ Some (noted_store serial.index serial.number nodes (stored_of x))
 store_noted x serial nodes t touch low = go t touch
   where
     with_uses : (ℕ → ℕ) → Tracker → Option Stored
-    with_uses u t = Some (record { handle = x.handle.0; slot = record { kind = kind.Buffer x.size; used = u; tracker = t }; waiting = [] })
+    with_uses u t = Some (record { handle = x.handle.0; slot = record { kind = x.kind; used = u; tracker = t }; waiting = [] })
 
     go : (t : Bool) → nodes_touch nodes x.handle.0 ≡ t → option_map stored_of (cond t (Some (with_use serial nodes x)) (Some x)) ≡ Some (noted_store serial.index serial.number nodes (stored_of x))
     go true touch = ap (λ u. with_uses u (fold taken x.tracker (uses_in (commands 0 nodes) x.handle.0))) (fun_ext (λ i. uses_noted x serial i low
@@ -106,10 +108,10 @@ store_noted x serial nodes t touch low = go t touch
         ap (with_uses (number_of x.uses)) (sym (ap (fold taken x.tracker) (by_none nodes x.handle.0 touch)))
         ∙ ap (λ u. with_uses u (fold taken x.tracker (uses_in (commands 0 nodes) x.handle.0))) (fun_ext (λ i. sym (cond-false ((i == serial.index) && nodes_touch nodes x.handle.0) serial.number (number_of x.uses i) (and_right (i == serial.index) (nodes_touch nodes x.handle.0) touch))))
 
-objects_recorded : (old new : Entries BufferStore) (serial : QueueSerial) (nodes : List Node) (touched : ℕ → Bool) →
+objects_recorded : (old new : Entries ObjectStore) (serial : QueueSerial) (nodes : List Node) (touched : ℕ → Bool) →
     ((b : ℕ) → entry b new ≡ cond (touched b) (option_map (with_use serial nodes) (entry b old)) (entry b old)) →
-    ((b : ℕ) (x : BufferStore) → entry b old ≡ Some x → nodes_touch nodes x.handle.0 ≡ touched b) →
-    ((b : ℕ) (x : BufferStore) → entry b old ≡ Some x → number_of x.uses serial.index ≤ serial.number) →
+    ((b : ℕ) (x : ObjectStore) → entry b old ≡ Some x → nodes_touch nodes x.handle.0 ≡ touched b) →
+    ((b : ℕ) (x : ObjectStore) → entry b old ≡ Some x → number_of x.uses serial.index ≤ serial.number) →
     objects_of new ≡ (λ o. option_map (noted_store serial.index serial.number nodes) (objects_of old o))
 objects_recorded old new serial nodes touched are touch low = fun_ext go
   where
@@ -117,14 +119,12 @@ objects_recorded old new serial nodes touched are touch low = fun_ext go
     none true = refl
     none false = refl
 
-    at : (b : ℕ) (v : Option BufferStore) → entry b old ≡ v → option_map stored_of (cond (touched b) (option_map (with_use serial nodes) v) v) ≡ option_map (noted_store serial.index serial.number nodes) (option_map stored_of v)
+    at : (b : ℕ) (v : Option ObjectStore) → entry b old ≡ v → option_map stored_of (cond (touched b) (option_map (with_use serial nodes) v) v) ≡ option_map (noted_store serial.index serial.number nodes) (option_map stored_of v)
     at b None is = none (touched b)
     at b (Some x) is = store_noted x serial nodes (touched b) (touch b x is) (low b x is)
 
     go : (o : Object) → objects_of new o ≡ option_map (noted_store serial.index serial.number nodes) (objects_of old o)
-    go (Buffer b) = ap (option_map stored_of) (are b) ∙ at b (entry b old) refl
-    go (Texture t) = refl
-    go (Renderbuffer r) = refl
+    go o = ap (option_map stored_of) (are (key_of o)) ∙ at (key_of o) (entry (key_of o) old) refl
 
 -- a last use is at most the next number
 use_low : (f : Face) (hands : Hands) (s : Link) (index id : ℕ) → Holds f hands s → IsOfGroup f.group index → use_of f s id index ≤ f.last index + 1
@@ -138,18 +138,18 @@ use_low f hands s index id h own = go (nodes_touch (f.pending index) id)
         omega (arith, low, last)
 
 pub face_recorded : (c d : CoreParts) (hands : Hands) (s : Link) (place : ℕ) (nodes : List Node) (serial : QueueSerial) (touched : ℕ → Bool) → Holds (face c) hands s → IsNextSerial c place serial → IsRecorded c d place nodes serial touched →
-    ((b : ℕ) (x : BufferStore) → entry b c.buffers ≡ Some x → nodes_touch nodes x.handle.0 ≡ touched b) → face d ≡ with_nodes (face c) serial.index nodes
+    ((b : ℕ) (x : ObjectStore) → entry b c.stores ≡ Some x → nodes_touch nodes x.handle.0 ≡ touched b) → face d ≡ with_nodes (face c) serial.index nodes
 face_recorded c d hands s place nodes serial touched h next r touch =
-    ap (λ i. record { group = i.group; last = last_in i; pending = pending_in i.group d.pending; objects = objects_of d.buffers }) r.indexes
-    ∙ ap (λ p. record { group = c.indexes.group; last = last_in c.indexes; pending = p; objects = objects_of d.buffers })
+    ap (λ i. record { group = i.group; last = last_in i; pending = pending_in i.group d.pending; objects = objects_of d.stores }) r.indexes
+    ∙ ap (λ p. record { group = c.indexes.group; last = last_in c.indexes; pending = p; objects = objects_of d.stores })
     (ap (pending_in c.indexes.group) r.pending ∙ pending_recorded c.indexes.group c.pending serial.index place nodes next.group next.place_is r.eight)
     ∙ ap (λ o. record { group = c.indexes.group; last = last_in c.indexes; pending = put (pending_in c.indexes.group c.pending) serial.index (pending_in c.indexes.group c.pending serial.index ++ nodes); objects = o })
-    (objects_recorded c.buffers d.buffers serial nodes touched r.buffers touch low
-    ∙ ap (λ n. λ o. option_map (noted_store serial.index n nodes) (objects_of c.buffers o)) next.next)
+    (objects_recorded c.stores d.stores serial nodes touched r.stores touch low
+    ∙ ap (λ n. λ o. option_map (noted_store serial.index n nodes) (objects_of c.stores o)) next.next)
   where
-    low : (b : ℕ) (x : BufferStore) → entry b c.buffers ≡ Some x → number_of x.uses serial.index ≤ serial.number
+    low : (b : ℕ) (x : ObjectStore) → entry b c.stores ≡ Some x → number_of x.uses serial.index ≤ serial.number
     low b x is =
-        let used : number_of x.uses serial.index ≡ use_of (face c) s x.handle.0 serial.index = (h.objects (Buffer b) (stored_of x) (ap (option_map stored_of) is)).slot.used serial.index in
+        let used : number_of x.uses serial.index ≡ use_of (face c) s x.handle.0 serial.index = (h.objects (object_at b) (stored_of x) (stored_at c.stores b x is)).slot.used serial.index in
         let most : use_of (face c) s x.handle.0 serial.index ≤ (face c).last serial.index + 1 = use_low (face c) hands s serial.index x.handle.0 h next.group in
         let number : serial.number ≡ (face c).last serial.index + 1 = next.next in
         omega (arith, used, most, number)
@@ -166,44 +166,44 @@ outlines_recorded f index nodes = fun_ext (λ o. go (f.objects o))
 -- The accesses that stores took in are those by the nodes
 
 -- what a list of nodes is to a store that they touch is this access, behind what was due before it
-abbrev pub IsAccessBy : List Node → BufferStore → Access → Type 0
+abbrev pub IsAccessBy : List Node → ObjectStore → Access → Type 0
 IsAccessBy nodes x access = uses_in (commands 0 nodes) x.handle.0 ≡ fenced_by (due_by x.tracker (access_of x.handle access)) ++ Accessed access ∷ []
 
-used_by_nodes : (x : BufferStore) (serial : QueueSerial) (nodes : List Node) (access : Access) → IsAccessBy nodes x access → used access serial x ≡ with_use serial nodes x
+used_by_nodes : (x : ObjectStore) (serial : QueueSerial) (nodes : List Node) (access : Access) → IsAccessBy nodes x access → used access serial x ≡ with_use serial nodes x
 used_by_nodes x serial nodes access is = ap (λ us. record x { uses = noted x.uses serial; tracker = fold taken x.tracker us }) (sym is)
 
 pub accessed_recorded : (c d : CoreParts) (place : ℕ) (nodes : List Node) (serial : QueueSerial) (touched : ℕ → Bool) (access : ℕ → Access) → IsAccessed c d place nodes serial touched access →
-    ((b : ℕ) (x : BufferStore) → entry b c.buffers ≡ Some x → touched b ≡ true → IsAccessBy nodes x (access b)) → IsRecorded c d place nodes serial touched
-accessed_recorded c d place nodes serial touched access r by = record { indexes = r.indexes; eight = r.eight; pending = r.pending; buffers = λ b. r.buffers b ∙ at b (touched b) refl (entry b c.buffers) refl }
+    ((b : ℕ) (x : ObjectStore) → entry b c.stores ≡ Some x → touched b ≡ true → IsAccessBy nodes x (access b)) → IsRecorded c d place nodes serial touched
+accessed_recorded c d place nodes serial touched access r by = record { indexes = r.indexes; eight = r.eight; pending = r.pending; stores = λ b. r.stores b ∙ at b (touched b) refl (entry b c.stores) refl }
   where
-    at : (b : ℕ) (t : Bool) → touched b ≡ t → (v : Option BufferStore) → entry b c.buffers ≡ v → cond t (option_map (used (access b) serial) v) v ≡ cond t (option_map (with_use serial nodes) v) v
+    at : (b : ℕ) (t : Bool) → touched b ≡ t → (v : Option ObjectStore) → entry b c.stores ≡ v → cond t (option_map (used (access b) serial) v) v ≡ cond t (option_map (with_use serial nodes) v) v
     at b true is None at_b = refl
     at b true is (Some x) at_b = ap Some (used_by_nodes x serial nodes (access b) (by b x at_b is))
     at b false is v at_b = refl
 
 pub opened_recorded : (c d : CoreParts) (place : ℕ) (barrier : Barrier) (serial : QueueSerial) (b : ℕ) → IsOpened c d place barrier serial b →
-    ((x : BufferStore) → entry b c.buffers ≡ Some x → uses_in (commands 0 (barrier_node barrier ∷ [])) x.handle.0 ≡ Fenced barrier ∷ []) →
+    ((x : ObjectStore) → entry b c.stores ≡ Some x → uses_in (commands 0 (barrier_node barrier ∷ [])) x.handle.0 ≡ Fenced barrier ∷ []) →
     IsRecorded c d place (barrier_node barrier ∷ []) serial (λ k. k == b)
-opened_recorded c d place barrier serial b r by = record { indexes = r.indexes; eight = r.eight; pending = r.pending; buffers = λ k. r.buffers k ∙ at k (k == b) refl (entry k c.buffers) refl }
+opened_recorded c d place barrier serial b r by = record { indexes = r.indexes; eight = r.eight; pending = r.pending; stores = λ k. r.stores k ∙ at k (k == b) refl (entry k c.stores) refl }
   where
-    at : (k : ℕ) (t : Bool) → (k == b) ≡ t → (v : Option BufferStore) → entry k c.buffers ≡ v → cond t (option_map (fenced_in serial barrier) v) v ≡ cond t (option_map (with_use serial (barrier_node barrier ∷ [])) v) v
+    at : (k : ℕ) (t : Bool) → (k == b) ≡ t → (v : Option ObjectStore) → entry k c.stores ≡ v → cond t (option_map (fenced_in serial barrier) v) v ≡ cond t (option_map (with_use serial (barrier_node barrier ∷ [])) v) v
     at k true is None at_k = refl
-    at k true is (Some x) at_k = ap (λ us. Some (record x { uses = noted x.uses serial; tracker = fold taken x.tracker us })) (sym (by x (ap (λ i. entry i c.buffers) (sym (eqb-true k b is)) ∙ at_k)))
+    at k true is (Some x) at_k = ap (λ us. Some (record x { uses = noted x.uses serial; tracker = fold taken x.tracker us })) (sym (by x (ap (λ i. entry i c.stores) (sym (eqb-true k b is)) ∙ at_k)))
     at k false is v at_k = refl
 
 -- What was pushed and taken in
 
-pub accessed_from : (old : CoreParts) (indexes : IndexTable) (was now : List (List Node)) (had have : Entries BufferStore) (place : ℕ) (nodes : List Node) (serial : QueueSerial) (touched : ℕ → Bool) (access : ℕ → Access) →
-    record { indexes = indexes; pending = was; buffers = had } ≡ old → length was ≡ 8 → now ≡ slice_set was place (slice_index_or was place [] ++ nodes) →
+pub accessed_from : (old : CoreParts) (indexes : IndexTable) (was now : List (List Node)) (had have : Entries ObjectStore) (place : ℕ) (nodes : List Node) (serial : QueueSerial) (touched : ℕ → Bool) (access : ℕ → Access) →
+    record { indexes = indexes; pending = was; stores = had } ≡ old → length was ≡ 8 → now ≡ slice_set was place (slice_index_or was place [] ++ nodes) →
     ((b : ℕ) → entry b have ≡ cond (touched b) (option_map (used (access b) serial) (entry b had)) (entry b had)) →
-    IsAccessed old (record { indexes = indexes; pending = now; buffers = have }) place nodes serial touched access
-accessed_from old indexes was now had have place nodes serial touched access is eight pending buffers =
-    subst (λ (p : CoreParts). IsAccessed p (record { indexes = indexes; pending = now; buffers = have }) place nodes serial touched access) is
-    (record { indexes = refl; eight = eight; pending = pending; buffers = buffers })
+    IsAccessed old (record { indexes = indexes; pending = now; stores = have }) place nodes serial touched access
+accessed_from old indexes was now had have place nodes serial touched access is eight pending stores =
+    subst (λ (p : CoreParts). IsAccessed p (record { indexes = indexes; pending = now; stores = have }) place nodes serial touched access) is
+    (record { indexes = refl; eight = eight; pending = pending; stores = stores })
 
-pub opened_from : (old : CoreParts) (indexes : IndexTable) (was now : List (List Node)) (had have : Entries BufferStore) (place : ℕ) (barrier : Barrier) (serial : QueueSerial) (b : ℕ) →
-    record { indexes = indexes; pending = was; buffers = had } ≡ old → length was ≡ 8 → now ≡ slice_set was place (slice_index_or was place [] ++ barrier_node barrier ∷ []) →
-    ChangesOne b (fenced_in serial barrier) had have → IsOpened old (record { indexes = indexes; pending = now; buffers = have }) place barrier serial b
-opened_from old indexes was now had have place barrier serial b is eight pending buffers =
-    subst (λ (p : CoreParts). IsOpened p (record { indexes = indexes; pending = now; buffers = have }) place barrier serial b) is
-    (record { indexes = refl; eight = eight; pending = pending; buffers = buffers })
+pub opened_from : (old : CoreParts) (indexes : IndexTable) (was now : List (List Node)) (had have : Entries ObjectStore) (place : ℕ) (barrier : Barrier) (serial : QueueSerial) (b : ℕ) →
+    record { indexes = indexes; pending = was; stores = had } ≡ old → length was ≡ 8 → now ≡ slice_set was place (slice_index_or was place [] ++ barrier_node barrier ∷ []) →
+    ChangesOne b (fenced_in serial barrier) had have → IsOpened old (record { indexes = indexes; pending = now; stores = have }) place barrier serial b
+opened_from old indexes was now had have place barrier serial b is eight pending stores =
+    subst (λ (p : CoreParts). IsOpened p (record { indexes = indexes; pending = now; stores = have }) place barrier serial b) is
+    (record { indexes = refl; eight = eight; pending = pending; stores = stores })

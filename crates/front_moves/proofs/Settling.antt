@@ -9,22 +9,24 @@ use Rattle.vk_types.specs.declared.ops.Node.{Node}
 use Rattle.vk_model.specs.Log.{Item, commands}
 use Rattle.back_core.specs.Own.{log_of, IsReadable}
 use Rattle.back_core.specs.Link.{Link}
-use Rattle.front_model.specs.Face.{Object, Buffer, Stored, Outline, Part, part_of, Face, outline, outline_at, view, nodes_touch}
+use Rattle.front_model.specs.declared.object.Object.{Object}
+use Rattle.front_model.specs.declared.object.Object.TheVariants.{Buffer}
+use Rattle.front_model.specs.Face.{Stored, Outline, Part, part_of, Face, outline, outline_at, view, nodes_touch}
 use Rattle.front_model.specs.Stands.{Moved, IsQuiet}
 use Rattle.front_model.proofs.Base.{put_at, put-other, cases_object}
 use Rattle.front_moves.proofs.Sharing.{untouched}
-use Rattle.front_moves.specs.Core.{OnlyFlushed, IsApart, IsParted, IsUntouched, IsOpen, HasStore, IsQuietBut}
+use Rattle.front_moves.specs.Core.{OnlyFlushed, IsApart, IsParted, IsUntouched, IsOpen, HasBytes, IsQuietBut}
 
 -- what is shown and quiet is as before
 abbrev pub KeepsAll : Face → Face → Link → Link → Type 0
 KeepsAll f g s t = Moved g t (view f s) (outline_at f) (IsQuiet f s)
 
--- the index was flushed where it touched the buffer, and nothing else that is pending touched that
-pub untouched_after : (f g : Face) (index b : ℕ) → OnlyFlushed f g → IsApart false g index b → IsParted false f index b → IsUntouched g b
-untouched_after f g index b flushed apart parted i x is = go (cases_eq i index)
+-- the index was flushed where it touched the object, and nothing else that is pending touched that
+pub untouched_after : (f g : Face) (index : ℕ) (object : Object) → OnlyFlushed f g → IsApart false g index object → IsParted false f index object → IsUntouched g object
+untouched_after f g index object flushed apart parted i x is = go (cases_eq i index)
   where
-    was : f.objects (Buffer b) ≡ Some x
-    was = ap (λ o. o (Buffer b)) (sym flushed.objects) ∙ is
+    was : f.objects object ≡ Some x
+    was = ap (λ os. os object) (sym flushed.objects) ∙ is
 
     kept : i ≢ index → (g.pending i ≡ f.pending i) ⊎ (g.pending i ≡ []) → nodes_touch (g.pending i) x.handle ≡ false
     kept other (inl same) = ap (λ nodes. nodes_touch nodes x.handle) same ∙ untouched (f.pending i) x (parted i other x was)
@@ -34,9 +36,9 @@ untouched_after f g index b flushed apart parted i x is = go (cases_eq i index)
     go (inl same) = ap (λ j. nodes_touch (g.pending j) x.handle) same ∙ untouched (g.pending index) x (apart x is)
     go (inr other) = kept other (flushed.pending i)
 
--- what is told of the buffer's tracker is told still
-pub open_after : (f g : Face) (b : ℕ) → OnlyFlushed f g → IsOpen f b → IsOpen g b
-open_after f g b flushed is_open x is = is_open x (ap (λ o. o (Buffer b)) (sym flushed.objects) ∙ is)
+-- what is told of the object's tracker is told still
+pub open_after : (f g : Face) (object : Object) → OnlyFlushed f g → IsOpen f object → IsOpen g object
+open_after f g object flushed is_open x is = is_open x (ap (λ os. os object) (sym flushed.objects) ∙ is)
 
 unmapped : {A B : Type 0} (f : A → B) (xs : List A) → map f xs ≡ [] → xs ≡ []
 unmapped f [] e = refl
@@ -47,7 +49,7 @@ waiting_in (Some o) = o.waiting
 waiting_in None = []
 
 -- a buffer that has a store
-pub store_of : (f : Face) (b len : ℕ) → HasStore f b len → (x : Stored) × (f.objects (Buffer b) ≡ Some x) × (x.waiting ≡ [])
+pub store_of : (f : Face) (b len : ℕ) → HasBytes f b len → (x : Stored) × (f.objects (Buffer b) ≡ Some x) × (x.waiting ≡ [])
 store_of f b len has = go (f.objects (Buffer b)) refl has
   where
     go : (o : Option Stored) → f.objects (Buffer b) ≡ o → option_map outline o ≡ Some (record { kind = kind.Buffer len; waiting = [] }) →
@@ -56,7 +58,7 @@ store_of f b len has = go (f.objects (Buffer b)) refl has
     go None is has = absurd cc
 
 -- the four moves one after another
-pub settled : (f g h k : Face) (s t u v : Link) (b : ℕ) → KeepsAll f g s t → Moved h t (view g t) (outline_at g) (IsQuietBut g t b) → KeepsAll h k t u → KeepsAll k k u v →
+pub settled : (f g h k : Face) (s t u v : Link) (b : ℕ) → KeepsAll f g s t → Moved h t (view g t) (outline_at g) (IsQuietBut g t (Buffer b)) → KeepsAll h k t u → KeepsAll k k u v →
     IsQuiet k v (Buffer b) → KeepsAll f k s v
 settled f g h k s t u v b first second third fourth quiet = record {
   holds = fourth.holds;

@@ -16,50 +16,52 @@ use Rattle.vk_types.specs.Touches.{the_end}
 use Rattle.vk_model.specs.Fitting.{HasRange}
 use Rattle.tables.specs.Table.{entry}
 use Rattle.resource_use.specs.Uses.{number_of}
-use Rattle.buffer_helper.specs.Buffers.{BufferStore}
+use Rattle.object_helper.specs.Objects.{ObjectStore}
 use Rattle.back_core.specs.Link.{Link, put}
-use Rattle.front_model.specs.Face.{Buffer, Slot, Face, nodes_touch}
+use Rattle.front_model.specs.declared.object.Object.TheVariants.{Buffer}
+use Rattle.front_model.specs.Face.{Slot, Face, nodes_touch}
 use Rattle.front_model.specs.Stands.{Hands, Holds, no_hands}
 use Rattle.front_model.specs.Steps.{AreUses, fresh_slot, noted, noted_hands, with_nodes}
 use Rattle.front_model.proofs.Base.{put-same, put-other, put_at, is_some_of}
-use Rattle.front_moves.specs.Buffers.{stored_of}
+use Rattle.front_moves.specs.Objects.{key_of, stored_of}
 use Rattle.front_moves.specs.Core.{CoreParts, face, in_hand}
 use Rattle.front_moves.specs.Recording.{IsNextSerial, IsRecorded}
+use Rattle.front_moves.proofs.Keys.{object_at}
 use Rattle.front_moves.proofs.Recorded.{face_recorded}
 use Rattle.front_moves.proofs.Recordable.{IsFree, copy_node, copy_touches}
-use Rattle.front_moves.proofs.BufferStores.{IsStore, store_at, Distinct, IsInNone, handle_is, hand_apart}
+use Rattle.front_moves.proofs.ObjectStores.{IsStore, stored_at, Distinct, IsInNone, handle_is, hand_apart}
 
 -- no barrier is one of any object
 pub no_fence : (id : HandleId) → IsFence id None
 no_fence id barrier e = cc
 
 -- the slot in hand
-pub hand_at : (id len : ℕ) → in_hand id len id ≡ Some (fresh_slot id (kind.Buffer len))
+pub hand_at : (id len : ℕ) → in_hand id (kind.Buffer len) id ≡ Some (fresh_slot id (kind.Buffer len))
 hand_at id len = put-same no_hands id (Some (fresh_slot id (kind.Buffer len)))
 
 -- nodes may touch the whole of it
-pub hand_free : (f : Face) (s : Link) (id : HandleId) (len : ℕ) → s.kinds id.0 ≡ Some (kind.Buffer len) → 0 < len → len ≤ the_end → IsFree f (in_hand id.0 len) s id 0 len
+pub hand_free : (f : Face) (s : Link) (id : HandleId) (len : ℕ) → s.kinds id.0 ≡ Some (kind.Buffer len) → 0 < len → len ≤ the_end → IsFree f (in_hand id.0 (kind.Buffer len)) s id 0 len
 hand_free f s id len is some end = record {
   range = subst (λ k. HasRange k 0 len) (sym is) (some, let whole : 0 + len ≤ len = omega arith in whole);
   end = omega (arith, end);
-  target = inl (is_some_of (in_hand id.0 len id.0) (fresh_slot id.0 (kind.Buffer len)) (hand_at id.0 len));
+  target = inl (is_some_of (in_hand id.0 (kind.Buffer len) id.0) (fresh_slot id.0 (kind.Buffer len)) (hand_at id.0 len));
 }
 
 -- the front after the copy
-pub after_upload : (c d : CoreParts) (s : Link) (place b at len size : ℕ) (serial : QueueSerial) (src to : HandleId) (due : Option Barrier) → Holds (face c) (in_hand src.0 len) s → Distinct c → IsInNone c src.0 → IsNextSerial c place serial → IsStore c b to size →
-    IsFence to due → IsRecorded c d place (behind_both None due (copy_node src 0 to at len)) serial (λ k. k == b) → face d ≡ with_nodes (face c) serial.index (behind_both None due (copy_node src 0 to at len))
+pub after_upload : (c d : CoreParts) (s : Link) (place b at len size : ℕ) (serial : QueueSerial) (src to : HandleId) (due : Option Barrier) → Holds (face c) (in_hand src.0 (kind.Buffer len)) s → Distinct c → IsInNone c src.0 → IsNextSerial c place serial → IsStore c b to size →
+    IsFence to due → IsRecorded c d place (behind_both None due (copy_node src 0 to at len)) serial (λ k. k == key_of (Buffer b)) → face d ≡ with_nodes (face c) serial.index (behind_both None due (copy_node src 0 to at len))
 after_upload c d s place b at len size serial src to due h distinct none next of fence recorded =
-    face_recorded c d (in_hand src.0 len) s place (behind_both None due (copy_node src 0 to at len)) serial (λ k. k == b) h next recorded touch
+    face_recorded c d (in_hand src.0 (kind.Buffer len)) s place (behind_both None due (copy_node src 0 to at len)) serial (λ k. k == key_of (Buffer b)) h next recorded touch
   where
-    touch : (k : ℕ) (x : BufferStore) → entry k c.buffers ≡ Some x → nodes_touch (behind_both None due (copy_node src 0 to at len)) x.handle.0 ≡ (k == b)
+    touch : (k : ℕ) (x : ObjectStore) → entry k c.stores ≡ Some x → nodes_touch (behind_both None due (copy_node src 0 to at len)) x.handle.0 ≡ (k == key_of (Buffer b))
     touch k x is =
         copy_touches None due src 0 to at len x.handle.0 (no_fence src) fence
-        ∙ ap (λ t. t || (to.0 == x.handle.0)) (hand_apart c src (Buffer k) (stored_of x) none (store_at c k x is))
+        ∙ ap (λ t. t || (to.0 == x.handle.0)) (hand_apart c src (object_at k) (stored_of x) none (stored_at c.stores k x is))
         ∙ handle_is c k b to size x distinct of is
 
 -- the hands then, and its slot
 abbrev pub hands_after : HandleId → ℕ → ℕ → ℕ → List Node → Hands
-hands_after src len index number nodes = noted_hands (in_hand src.0 len) index number nodes
+hands_after src len index number nodes = noted_hands (in_hand src.0 (kind.Buffer len)) index number nodes
 
 abbrev pub slot_after : HandleId → ℕ → ℕ → ℕ → List Node → Slot
 slot_after src len index number nodes = noted index number nodes src.0 (fresh_slot src.0 (kind.Buffer len))

@@ -6,7 +6,8 @@ use Rattle.back_core.specs.Own.{last_use}
 use Rattle.back_core.specs.Link.{Link, Asked, put}
 use Rattle.back_core.specs.Needs.{IsOfGroup, HasBatch}
 use Rattle.back_core.specs.Answers.{NowRises, AskedRises, Learns, Loads, Completes}
-use Rattle.front_model.specs.Face.{Buffer, Stored, Face, nodes_touch}
+use Rattle.front_model.specs.declared.object.Object.{Object}
+use Rattle.front_model.specs.Face.{Stored, Face, nodes_touch}
 use Rattle.front_model.specs.Stands.{Holds, no_hands}
 use Rattle.front_model.proofs.Base.{put_at, put-other}
 use Rattle.front_model.proofs.LinkSteps.{own_or_not}
@@ -74,19 +75,19 @@ completed_learns s t index number is = subst (Learns s) (sym is.rest) (asked_one
 
 -- How far waiting has come
 
--- each batch that uses the buffer is known to be retired, of the indexes of so many places
-pub record WaitedTo (f : Face) (s t : Link) (b place : ℕ) : Type 0 where
+-- each batch that uses the object is known to be retired, of the indexes of so many places
+pub record WaitedTo (f : Face) (s t : Link) (object : Object) (place : ℕ) : Type 0 where
   pub learns : Learns s t
-  pub covered : (i : ℕ) (x : Stored) → 8 * f.group ≤ i → i < 8 * f.group + place → f.objects (Buffer b) ≡ Some x → last_use s.mine i x.handle ≤ t.done i
+  pub covered : (i : ℕ) (x : Stored) → 8 * f.group ≤ i → i < 8 * f.group + place → f.objects object ≡ Some x → last_use s.mine i x.handle ≤ t.done i
 
-pub waited_to_none : (f : Face) (s : Link) (b : ℕ) → WaitedTo f s s b 0
-waited_to_none f s b = record { learns = learns_nothing s; covered = λ i x low high is. absurd (omega arith) }
+pub waited_to_none : (f : Face) (s : Link) (object : Object) → WaitedTo f s s object 0
+waited_to_none f s object = record { learns = learns_nothing s; covered = λ i x low high is. absurd (omega arith) }
 
 -- what is used without being pending was handed over
-pub used_is : (f : Face) (s : Link) (b index number : ℕ) (x : Stored) → Holds f no_hands s → IsUntouched f b → f.objects (Buffer b) ≡ Some x →
+pub used_is : (f : Face) (s : Link) (object : Object) (index number : ℕ) (x : Stored) → Holds f no_hands s → IsUntouched f object → f.objects object ≡ Some x →
     number ≡ x.slot.used index → last_use s.mine index x.handle ≡ number
-used_is f s b index number x h apart is n =
-    sym (n ∙ (h.objects (Buffer b) x is).slot.used index
+used_is f s object index number x h apart is n =
+    sym (n ∙ (h.objects object x is).slot.used index
     ∙ cond-false (nodes_touch (f.pending index) x.handle) (f.last index + 1) (last_use s.mine index x.handle) (apart index x is))
 
 pub if_some_at : (P : Stored → Type 0) (o : Option Stored) (x : Stored) → IfSome o P → o ≡ Some x → P x
@@ -100,14 +101,14 @@ used_by (Some x) index number used none some = (x, refl, used)
 used_by None index number used none some = absurd (let e : number ≡ 0 = none in omega arith)
 
 -- one more index
-pub waited_more : (f : Face) (s t u : Link) (b place index number : ℕ) → Holds f no_hands s → IsUntouched f b → WaitedTo f s t b place → Learns t u →
-    index ≡ 8 * f.group + place → IfSome (f.objects (Buffer b)) (λ x. number ≡ x.slot.used index) → number ≤ u.done index → WaitedTo f s u b (place + 1)
-waited_more f s t u b place index number h apart waited more at used reached = record {
+pub waited_more : (f : Face) (s t u : Link) (object : Object) (place index number : ℕ) → Holds f no_hands s → IsUntouched f object → WaitedTo f s t object place → Learns t u →
+    index ≡ 8 * f.group + place → IfSome (f.objects object) (λ x. number ≡ x.slot.used index) → number ≤ u.done index → WaitedTo f s u object (place + 1)
+waited_more f s t u object place index number h apart waited more at used reached = record {
   learns = learns_then s t u waited.learns more;
   covered = λ i x low high is. go i x low high is (cases_lt i (8 * f.group + place));
 }
   where
-    go : (i : ℕ) (x : Stored) → 8 * f.group ≤ i → i < 8 * f.group + (place + 1) → f.objects (Buffer b) ≡ Some x → (i < 8 * f.group + place) ⊎ (8 * f.group + place ≤ i) →
+    go : (i : ℕ) (x : Stored) → 8 * f.group ≤ i → i < 8 * f.group + (place + 1) → f.objects object ≡ Some x → (i < 8 * f.group + place) ⊎ (8 * f.group + place ≤ i) →
         last_use s.mine i x.handle ≤ u.done i
     go i x low high is (inl below) =
         let before : last_use s.mine i x.handle ≤ t.done i = waited.covered i x low below is in
@@ -115,13 +116,13 @@ waited_more f s t u b place index number h apart waited more at used reached = r
         omega arith
     go i x low high is (inr past) =
         let here : index ≡ i = omega arith in
-        let n : number ≡ x.slot.used index = if_some_at (λ y. number ≡ y.slot.used index) (f.objects (Buffer b)) x used is in
-        let is_used : last_use s.mine index x.handle ≡ number = used_is f s b index number x h apart is n in
+        let n : number ≡ x.slot.used index = if_some_at (λ y. number ≡ y.slot.used index) (f.objects object) x used is in
+        let is_used : last_use s.mine index x.handle ≡ number = used_is f s object index number x h apart is n in
         subst (λ j. last_use s.mine j x.handle ≤ u.done j) here (omega arith)
 
 -- all of them
-pub waited_all : (f : Face) (s t : Link) (b : ℕ) → Holds f no_hands s → WaitedTo f s t b 8 → IsRetired f t b
-waited_all f s t b h waited i x is = subst (λ m. last_use m i x.handle ≤ t.done i) (sym (ap (λ (l : Link). l.mine) waited.learns.rest)) (go (own_or_not f.group i))
+pub waited_all : (f : Face) (s t : Link) (object : Object) → Holds f no_hands s → WaitedTo f s t object 8 → IsRetired f t object
+waited_all f s t object h waited i x is = subst (λ m. last_use m i x.handle ≤ t.done i) (sym (ap (λ (l : Link). l.mine) waited.learns.rest)) (go (own_or_not f.group i))
   where
     go : IsOfGroup f.group i ⊎ (IsOfGroup f.group i → ⊥) → last_use s.mine i x.handle ≤ t.done i
     go (inl own) = waited.covered i x own.0 own.1 is

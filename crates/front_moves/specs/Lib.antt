@@ -1,4 +1,4 @@
-pub mod Buffers
+pub mod Objects
 pub mod Core
 pub mod Ending
 pub mod Recording

@@ -1,7 +1,8 @@
 // How a front ends: each context is flushed and each store given away, or each store is let go.
 ghost use Rattle.std.specs.Prelude.{◌≡◌, ℕ, ◌≤◌, [], false, Some, None, OnOk, OnErr, is_err};
 ghost use Rattle.vk_device.specs.Faults.{HasCause};
-ghost use Rattle.front_model.specs.Face.{Object, Stored};
+ghost use Rattle.front_model.specs.declared.object.Object.{Object};
+ghost use Rattle.front_model.specs.Face.{Stored};
 ghost use Rattle.front_model.specs.Stands.{Holds, Owns, no_hands};
 ghost use Rattle.front_moves.specs.Core.{face};
 ghost use Rattle.front_moves.specs.Ending.{HasClosed};
@@ -10,6 +11,7 @@ ghost use Rattle.front_moves.specs.Reasons.{IsEnding};
 
 use crate::closing_comes_to::{abandon_comes_to, close_comes_to};
 use crate::group_core::Core;
+use crate::stores_come_to::end_comes_to;
 use back_core::BackLink;
 use garbage::Garbage;
 use vk_types::{Reason, SerialIndex, Stop};
@@ -54,7 +56,7 @@ impl Core {
         Ok(())
     }
 
-    /// Ends the store of each buffer.
+    /// Ends the store of each object.
     fn end_each<L: BackLink>(&mut self, link: &mut L)
         requires holds { Holds (face self.old) no_hands (L.state link.old) }
         ensures holds { Holds (face self.new) no_hands (L.state link.new) }
@@ -64,8 +66,9 @@ impl Core {
         ensures faults { L.faults link.old ≤ L.faults link.new }
         ensures at_back { ActsAtBack L.state L.told link.old link.new 0 false false NoBatch }
     {
-        while let Some(buffer) = self.buffers.first() {
-            self.end(link, buffer);
+        end_comes_to();
+        while let Some((_, store)) = self.objects.take_first() {
+            link.give(store.into_garbage());
         }
     }
 
@@ -83,12 +86,12 @@ impl Core {
             group: _,
             indexes: _,
             pending: _,
-            mut buffers,
+            mut objects,
         } = self;
-        while let Some((_, store)) = buffers.take_first() {
+        while let Some((_, store)) = objects.take_first() {
             let Garbage { handle, uses: _ } = store.into_garbage();
             link.abandon(handle);
         }
-        buffers.destroy_empty();
+        objects.destroy_empty();
     }
 }

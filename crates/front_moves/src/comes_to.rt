@@ -14,7 +14,7 @@ use front_model::{link_steps_show, quiet_objects_stay, steps_hold, steps_may};
 /// A front with nothing in it holds.
 pub(crate) fn new_comes_to()
     ensures { (s : Link) (group : ℕ) → group < 8 → IsNew s group →
-        Holds (face (record { indexes = unused group; pending = replicate 8 []; buffers = [] })) no_hands s }
+        Holds (face (record { indexes = unused group; pending = replicate 8 []; stores = [] })) no_hands s }
 {
     steps_hold();
 }

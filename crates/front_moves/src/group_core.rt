@@ -6,16 +6,17 @@ ghost use Rattle.vk_model.specs.Log.{commands};
 ghost use Rattle.back_core.specs.Own.{log_of};
 ghost use Rattle.back_core.specs.Link.{Link, IsNew, put, enqueued};
 ghost use Rattle.back_core.specs.Needs.{IsOfGroup};
-ghost use Rattle.front_model.specs.Face.{Buffer, outline_at, view, nodes_touch};
+ghost use Rattle.front_model.specs.Face.{outline_at, view, nodes_touch};
 ghost use Rattle.front_model.specs.Stands.{Holds, Owns, Moved, IsQuiet, no_hands};
 ghost use Rattle.front_moves.specs.Core.{face, IsFlushed, OnlyFlushed, HasFlushedSome, IsReadTogether, IsApart, IsParted};
 ghost use Rattle.back_core.specs.Frame.{ActsAtBack};
 ghost use Rattle.front_moves.specs.Reasons.{IsFlushOf, IsFlushOfSome, Decides, IsTouching, IsCross, IsParting};
 
-use crate::buffers::Buffers;
 use crate::comes_to::{flush_comes_to, new_comes_to};
+use crate::objects::Objects;
 use crate::pending::Pending;
 use back_core::BackLink;
+use front_model::Object;
 use queue_serials::Indexes;
 use std::alloc::Global;
 use std::marker::Model;
@@ -24,14 +25,14 @@ use vk_types::{Access, Batch, Nodes, QueueSerial, Reason, SerialIndex, SignalNum
 /// How many nodes may be pending in a context before they are handed to the back.
 pub(crate) const MOST_PENDING: usize = 1024;
 
-/// The buffers of a share group and what its contexts recorded. Contracts see a record of lists; `face` of `specs/Core.antt` is the
+/// The objects of a share group and what its contexts recorded. Contracts see a record of lists; `face` of `specs/Core.antt` is the
 /// front that they make.
 pub struct Core {
     pub(crate) alloc: Global,
     pub(crate) group: u8,
     pub(crate) indexes: Indexes,
     pub(crate) pending: Pending,
-    pub(crate) buffers: Buffers,
+    pub(crate) objects: Objects,
 }
 
 impl Model for Core {
@@ -40,7 +41,7 @@ impl Model for Core {
 
     ghost Value = { CoreParts };
 
-    ghost view = { λ c. record { indexes = c.indexes; pending = c.pending; buffers = c.buffers } };
+    ghost view = { λ c. record { indexes = c.indexes; pending = c.pending; stores = c.objects } };
 
     ghost invariant = { λ c. (c.group ≡ c.indexes.group) × (c.group < 8) };
 }
@@ -57,7 +58,7 @@ impl Core {
             group,
             indexes: Indexes::new(group),
             pending: Pending::new(alloc),
-            buffers: Buffers::new(alloc),
+            objects: Objects::new(alloc),
         }
     }
 
@@ -173,29 +174,29 @@ impl Core {
         }
     }
 
-    /// Whether the nodes that are pending in a context touch a buffer, by the buffer's last uses.
-    fn is_touched(&self, index: SerialIndex, buffer: u32) -> bool
+    /// Whether the nodes that are pending in a context touch an object, by its last uses.
+    fn is_touched(&self, index: SerialIndex, object: Object) -> bool
         requires group { IsOfGroup (face self.now).group index }
-        ensures some { (s : Link) → Holds (face self.now) no_hands s → IfSome ((face self.now).objects (Buffer buffer)) (λ x. nodes_touch ((face self.now).pending index) x.handle ≡ result) }
-        ensures none { IfNone ((face self.now).objects (Buffer buffer)) (result ≡ false) }
+        ensures some { (s : Link) → Holds (face self.now) no_hands s → IfSome ((face self.now).objects object) (λ x. nodes_touch ((face self.now).pending index) x.handle ≡ result) }
+        ensures none { IfNone ((face self.now).objects object) (result ≡ false) }
     {
         flush_comes_to();
-        match self.buffers.get(buffer) {
+        match self.objects.get(object) {
             Some(store) => store.last_use(index) > self.indexes.last(index),
             None => false,
         }
     }
 
-    /// Whether a copy may read a buffer beside what is pending in a context: no barrier is due before that, and there is none of the buffer
+    /// Whether a copy may read an object beside what is pending in a context: no barrier is due before that, and there is none of the object
     /// among what is pending.
-    fn is_read_together(&self, index: SerialIndex, buffer: u32) -> bool
+    fn is_read_together(&self, index: SerialIndex, object: Object) -> bool
         requires group { IsOfGroup (face self.now).group index }
-        ensures { IfSome ((face self.now).objects (Buffer buffer)) (λ x.
+        ensures { IfSome ((face self.now).objects object) (λ x.
             (result ≡ true → IsReadTogether ((face self.now).pending index) x) × (result ≡ false → IsReadTogether ((face self.now).pending index) x → ⊥)) }
     {
-        match self.buffers.get(buffer) {
+        match self.objects.get(object) {
             Some(store) => {
-                if store.due(Access::TRANSFER_READ).is_some() {
+                if store.due(Access::TRANSFER_READ, None).is_some() {
                     return false;
                 }
                 !self.pending.has_barrier(self.place(index), store.id())
@@ -204,75 +205,75 @@ impl Core {
         }
     }
 
-    /// Whether something that is pending in a context conflicts with a use of a buffer, which may be known to read alone.
-    fn conflicts(&self, index: SerialIndex, buffer: u32, reads: bool) -> bool
+    /// Whether something that is pending in a context conflicts with a use of an object, which may be known to read alone.
+    fn conflicts(&self, index: SerialIndex, object: Object, reads: bool) -> bool
         requires group { IsOfGroup (face self.now).group index }
-        ensures { (s : Link) → Holds (face self.now) no_hands s → Decides reads (face self.now) index buffer result }
+        ensures { (s : Link) → Holds (face self.now) no_hands s → Decides reads (face self.now) index object result }
     {
         if self.has_pending(index) {
-            return self.pending_conflicts(index, buffer, reads);
+            return self.pending_conflicts(index, object, reads);
         }
         false
     }
 
-    /// The same, by the last uses and the tracker of the buffer.
-    fn pending_conflicts(&self, index: SerialIndex, buffer: u32, reads: bool) -> bool
+    /// The same, by the last uses and the tracker of the object.
+    fn pending_conflicts(&self, index: SerialIndex, object: Object, reads: bool) -> bool
         requires group { IsOfGroup (face self.now).group index }
-        ensures { (s : Link) → Holds (face self.now) no_hands s → Decides reads (face self.now) index buffer result }
+        ensures { (s : Link) → Holds (face self.now) no_hands s → Decides reads (face self.now) index object result }
     {
-        if self.is_touched(index, buffer) {
+        if self.is_touched(index, object) {
             if reads {
-                return !self.is_read_together(index, buffer);
+                return !self.is_read_together(index, object);
             }
             return true;
         }
         false
     }
 
-    /// Flushes a context where something that is pending in it conflicts with a use of a buffer, which may be known to read alone.
+    /// Flushes a context where something that is pending in it conflicts with a use of an object, which may be known to read alone.
     pub(crate) fn part<L: BackLink>(
         &mut self,
         link: &mut L,
         index: SerialIndex,
-        buffer: u32,
+        object: Object,
         reads: bool,
         reason: Reason,
     ) -> Result<(), Stop>
         requires holds { Holds (face self.old) no_hands (L.state link.old) }
         requires group { IsOfGroup (face self.old).group index }
         ensures some { OnOk result (HasFlushedSome (face self.old) (face self.new) (L.state link.old) (L.state link.new)) }
-        ensures apart { OnOk result (IsApart reads (face self.new) index buffer) }
+        ensures apart { OnOk result (IsApart reads (face self.new) index object) }
         ensures group { (face self.new).group ≡ (face self.old).group }
         ensures err { OnErr result (Owns (face self.new).objects (L.state link.new)) }
         ensures cause { HasCause (L.faults link.old) (L.faults link.new) result }
-        ensures at_back { ActsAtBack L.state L.told link.old link.new 0 false (is_err result) (IsTouching (face self.old) index buffer reads reason) }
+        ensures at_back { ActsAtBack L.state L.told link.old link.new 0 false (is_err result) (IsTouching (face self.old) index object reads reason) }
     {
-        if self.conflicts(index, buffer, reads) {
+        if self.conflicts(index, object, reads) {
             return self.flush(link, index, reason);
         }
         Ok(())
     }
 
-    /// Flushes each other context in which something is pending that conflicts with a use of a buffer, which may be known to read alone.
+    /// Flushes each other context in which something is pending that conflicts with a use of an object, which may be known to read alone.
     fn part_others<L: BackLink>(
         &mut self,
         link: &mut L,
         index: SerialIndex,
-        buffer: u32,
+        object: Object,
         reads: bool,
     ) -> Result<(), Stop>
         requires holds { Holds (face self.old) no_hands (L.state link.old) }
         ensures some { OnOk result (HasFlushedSome (face self.old) (face self.new) (L.state link.old) (L.state link.new)) }
-        ensures parted { OnOk result (IsParted reads (face self.new) index buffer) }
+        ensures parted { OnOk result (IsParted reads (face self.new) index object) }
         ensures group { (face self.new).group ≡ (face self.old).group }
         ensures err { OnErr result (Owns (face self.new).objects (L.state link.new)) }
         ensures cause { HasCause (L.faults link.old) (L.faults link.new) result }
-        ensures at_back { ActsAtBack L.state L.told link.old link.new 0 false (is_err result) (IsCross (face self.old) index buffer reads) }
+        ensures at_back { ActsAtBack L.state L.told link.old link.new 0 false (is_err result) (IsCross (face self.old) index object reads) }
     {
         for place in 0..8u8 {
             let other = SerialIndex::new(8 * self.group + place);
             if other != index {
-                match self.part(link, other, buffer, reads, Reason::Cross) {
+                match self.part(link, other, object, reads, Reason::Cross) {
                     Ok(()) => {}
                     Err(stop) => return Err(stop),
                 }
@@ -281,27 +282,27 @@ impl Core {
         Ok(())
     }
 
-    /// Flushes each other context in which something is pending that conflicts with a use of a buffer, which may be known to read alone,
+    /// Flushes each other context in which something is pending that conflicts with a use of an object, which may be known to read alone,
     /// and this one where it is full.
     pub(crate) fn prepare<L: BackLink>(
         &mut self,
         link: &mut L,
         index: SerialIndex,
-        buffer: u32,
+        object: Object,
         reads: bool,
     ) -> Result<(), Stop>
         requires holds { Holds (face self.old) no_hands (L.state link.old) }
         requires group { IsOfGroup (face self.old).group index }
         ensures moved { OnOk result (Moved (face self.new) (L.state link.new) (view (face self.old) (L.state link.old)) (outline_at (face self.old)) (IsQuiet (face self.old) (L.state link.old))) }
         ensures flushed { OnOk result (OnlyFlushed (face self.old) (face self.new)) }
-        ensures parted { OnOk result (IsParted reads (face self.new) index buffer) }
+        ensures parted { OnOk result (IsParted reads (face self.new) index object) }
         ensures few { OnOk result (length ((face self.new).pending index) < 1024) }
         ensures group { (face self.new).group ≡ (face self.old).group }
         ensures err { OnErr result (Owns (face self.new).objects (L.state link.new)) }
         ensures cause { HasCause (L.faults link.old) (L.faults link.new) result }
-        ensures at_back { ActsAtBack L.state L.told link.old link.new 0 false (is_err result) (IsParting (face self.old) index ((buffer, reads) ∷ [])) }
+        ensures at_back { ActsAtBack L.state L.told link.old link.new 0 false (is_err result) (IsParting (face self.old) index ((object, reads) ∷ [])) }
     {
-        match self.part_others(link, index, buffer, reads) {
+        match self.part_others(link, index, object, reads) {
             Ok(()) => {}
             Err(stop) => return Err(stop),
         }

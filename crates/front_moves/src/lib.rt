@@ -1,14 +1,15 @@
 //! The moves of which the calls of a share group are made: each keeps the front standing, and changes what its objects hold as
-//! its contract says. So far an object is a buffer, and each node that is recorded stands behind the barriers that are due before it.
+//! its contract says. Objects of all kinds stand in one table; the nodes recorded so far are copies between buffers, each behind the
+//! barriers that are due before it.
 #![tactic(auto)]
 
-mod buffers;
 mod closing;
 mod closing_comes_to;
 mod comes_to;
 mod ending;
 mod group_core;
 mod moves;
+mod objects;
 mod pending;
 mod progress;
 mod reading_comes_to;

@@ -5,16 +5,19 @@ ghost use Rattle.vk_types.specs.Touches.{the_end};
 ghost use Rattle.vk_types.specs.declared.stops.Stop.TheVariants.{Memory};
 ghost use Rattle.resource_use.specs.Uses.{number_of};
 ghost use Rattle.back_core.specs.Needs.{IsOfGroup};
-ghost use Rattle.front_model.specs.Face.{Buffer, put_object, outline_at, view, recorded};
+ghost use Rattle.front_model.specs.declared.object.Object.TheVariants.{Buffer};
+ghost use Rattle.front_model.specs.Face.{put_object, outline_at, view, recorded};
 ghost use Rattle.front_model.specs.Stands.{Holds, Owns, Moved, IsQuiet, no_hands};
 ghost use Rattle.barriers.specs.Recording.{node_for};
 ghost use Rattle.front_moves.specs.Recording.{behind_both};
 ghost use Rattle.vk_types.specs.Accesses.{host_read};
 ghost use Rattle.tables.specs.Table.{entry};
 ghost use Rattle.barriers.specs.Trackers.{due_by};
-ghost use Rattle.buffer_helper.specs.Buffers.{access_of};
+ghost use Rattle.object_helper.specs.Objects.{access_of};
 ghost use Rattle.front_model.specs.Wanted.{with_copy};
-ghost use Rattle.front_moves.specs.Core.{face, in_hand, HasStore, IsParted, IsQuietBut, IsUntouched, IsRetired, IsOpen};
+ghost use Rattle.front_moves.specs.Objects.{key_of};
+ghost use Rattle.vk_types.specs.declared.handles.Kind.TheVariants as kind;
+ghost use Rattle.front_moves.specs.Core.{face, in_hand, HasStore, HasBytes, IsParted, IsQuietBut, IsUntouched, IsRetired, IsOpen};
 ghost use Rattle.back_core.specs.Frame.{ActsAtBack, NoBatch};
 
 use crate::group_core::Core;
@@ -24,6 +27,7 @@ use crate::recording_comes_to::{
     copy_comes_to, opening_comes_to, stopped_recording_comes_to, upload_comes_to,
 };
 use back_core::BackLink;
+use front_model::Object;
 use garbage::Garbage;
 use std::alloc::AllocError;
 use vk_types::{Access, Barrier, HandleId, Node, Op, QueueSerial, SerialIndex, Stop};
@@ -81,18 +85,18 @@ impl Core {
         at: u64,
         len: u64,
     ) -> Result<(), Stop>
-        requires holds { Holds (face self.old) (in_hand staging.handle.0 len) (L.state link.old) }
+        requires holds { Holds (face self.old) (in_hand staging.handle.0 (kind.Buffer len)) (L.state link.old) }
         requires group { IsOfGroup (face self.old).group serial.index }
         requires next { serial.number ≡ (face self.old).last serial.index + 1 }
         requires uses { (i : ℕ) → number_of staging.uses i ≡ (if i == serial.index then serial.number else 0) }
-        requires parted { IsParted false (face self.old) serial.index buffer }
+        requires parted { IsParted false (face self.old) serial.index (Buffer buffer) }
         requires few { length ((face self.old).pending serial.index) < 1024 }
-        requires store { (size : ℕ) × HasStore (face self.old) buffer size × (at + len ≤ size) }
+        requires store { (size : ℕ) × HasBytes (face self.old) buffer size × (at + len ≤ size) }
         requires some { 0 < len }
         ensures moved { OnOk result (Moved (face self.new) (L.state link.new)
             (put_object (view (face self.old) (L.state link.old)) (Buffer buffer)
             (with_copy (view (face self.old) (L.state link.old) (Buffer buffer)) at len (recorded (face self.old) (L.state link.old) staging.handle.0) 0))
-            (outline_at (face self.old)) (IsQuietBut (face self.old) (L.state link.old) buffer)) }
+            (outline_at (face self.old)) (IsQuietBut (face self.old) (L.state link.old) (Buffer buffer))) }
         ensures group { (face self.new).group ≡ (face self.old).group }
         ensures err { OnErr result (Owns (face self.new).objects (L.state link.new)) }
         ensures cause { HasCause (L.faults link.old) (L.faults link.new) result }
@@ -102,8 +106,11 @@ impl Core {
         stopped_recording_comes_to();
         let place = self.place(serial.index);
         let src = staging.handle.id();
-        let dst = self.id_of(buffer);
-        if let Ok(due) = self.buffers.access(buffer, Access::TRANSFER_WRITE, serial) {
+        let dst = self.id_of(Object::Buffer(buffer));
+        if let Ok(due) = self
+            .objects
+            .access(Object::Buffer(buffer), Access::TRANSFER_WRITE, serial)
+        {
             let copy = Node {
                 op: Op::CopyBuffer {
                     src,
@@ -137,17 +144,17 @@ impl Core {
         requires holds { Holds (face self.old) no_hands (L.state link.now) }
         requires group { IsOfGroup (face self.old).group serial.index }
         requires next { serial.number ≡ (face self.old).last serial.index + 1 }
-        requires source_parted { IsParted (not (src == dst)) (face self.old) serial.index src }
-        requires parted { IsParted false (face self.old) serial.index dst }
+        requires source_parted { IsParted (not (src == dst)) (face self.old) serial.index (Buffer src) }
+        requires parted { IsParted false (face self.old) serial.index (Buffer dst) }
         requires few { length ((face self.old).pending serial.index) < 1024 }
-        requires source { (len : ℕ) × HasStore (face self.old) src len × (src_at + size ≤ len) }
-        requires target { (len : ℕ) × HasStore (face self.old) dst len × (dst_at + size ≤ len) }
+        requires source { (len : ℕ) × HasBytes (face self.old) src len × (src_at + size ≤ len) }
+        requires target { (len : ℕ) × HasBytes (face self.old) dst len × (dst_at + size ≤ len) }
         requires some { 0 < size }
         requires apart { src ≡ dst → (src_at + size ≤ dst_at) ⊎ (dst_at + size ≤ src_at) }
         ensures moved { OnOk result (Moved (face self.new) (L.state link.now)
             (put_object (view (face self.old) (L.state link.now)) (Buffer dst)
             (with_copy (view (face self.old) (L.state link.now) (Buffer dst)) dst_at size (view (face self.old) (L.state link.now) (Buffer src)) src_at))
-            (outline_at (face self.old)) (λ o. IsQuietBut (face self.old) (L.state link.now) dst o × (o ≢ Buffer src))) }
+            (outline_at (face self.old)) (λ o. IsQuietBut (face self.old) (L.state link.now) (Buffer dst) o × (o ≢ Buffer src))) }
         ensures group { (face self.new).group ≡ (face self.old).group }
         ensures err { OnErr result (Owns (face self.new).objects (L.state link.now)) }
         ensures memory { IfErr result (λ stop. stop ≡ Memory) }
@@ -156,9 +163,12 @@ impl Core {
         stopped_recording_comes_to();
         let _ = link;
         let place = self.place(serial.index);
-        let from = self.id_of(src);
-        let to = self.id_of(dst);
-        match self.buffers.access_both(src, dst, serial) {
+        let from = self.id_of(Object::Buffer(src));
+        let to = self.id_of(Object::Buffer(dst));
+        match self
+            .objects
+            .access_both(Object::Buffer(src), Object::Buffer(dst), serial)
+        {
             Ok((one, other)) => {
                 let copy = Node {
                     op: Op::CopyBuffer {
@@ -185,12 +195,12 @@ impl Core {
         requires holds { Holds (face self.old) no_hands (L.state link.now) }
         requires group { IsOfGroup (face self.old).group serial.index }
         requires next { serial.number ≡ (face self.old).last serial.index + 1 }
-        requires parted { IsParted false (face self.old) serial.index buffer }
+        requires parted { IsParted false (face self.old) serial.index (Buffer buffer) }
         requires few { length ((face self.old).pending serial.index) < 1024 }
-        requires store { (size : ℕ) × HasStore (face self.old) buffer size }
-        ensures moved { OnOk result (Moved (face self.new) (L.state link.now) (view (face self.old) (L.state link.now)) (outline_at (face self.old)) (IsQuietBut (face self.old) (L.state link.now) buffer)) }
-        ensures parted { OnOk result (IsParted false (face self.new) serial.index buffer) }
-        ensures opened { OnOk result (IsOpen (face self.new) buffer) }
+        requires store { (size : ℕ) × HasBytes (face self.old) buffer size }
+        ensures moved { OnOk result (Moved (face self.new) (L.state link.now) (view (face self.old) (L.state link.now)) (outline_at (face self.old)) (IsQuietBut (face self.old) (L.state link.now) (Buffer buffer))) }
+        ensures parted { OnOk result (IsParted false (face self.new) serial.index (Buffer buffer)) }
+        ensures opened { OnOk result (IsOpen (face self.new) (Buffer buffer)) }
         ensures group { (face self.new).group ≡ (face self.old).group }
         ensures err { OnErr result (Owns (face self.new).objects (L.state link.now)) }
         ensures memory { IfErr result (λ stop. stop ≡ Memory) }
@@ -199,12 +209,15 @@ impl Core {
         stopped_recording_comes_to();
         let _ = link;
         let place = self.place(serial.index);
-        let _id = self.id_of(buffer);
-        let barrier = match self.due_opening(buffer) {
+        let _id = self.id_of(Object::Buffer(buffer));
+        let barrier = match self.due_opening(Object::Buffer(buffer)) {
             Some(barrier) => barrier,
             None => return Ok(()),
         };
-        if self.buffers.fence(buffer, &barrier, serial).is_ok()
+        if self
+            .objects
+            .fence(Object::Buffer(buffer), &barrier, serial)
+            .is_ok()
             && self
                 .pending
                 .push(
@@ -220,23 +233,23 @@ impl Core {
         Err(Stop::Memory)
     }
 
-    /// The barrier that is due before the host reads a buffer.
-    fn due_opening(&self, buffer: u32) -> Option<Barrier>
-        ensures { IfSome (entry buffer self.now.buffers) (λ x. result ≡ due_by x.tracker (access_of x.handle host_read)) }
+    /// The barrier that is due before the host reads an object.
+    fn due_opening(&self, object: Object) -> Option<Barrier>
+        ensures { IfSome (entry (key_of object) self.now.stores) (λ x. result ≡ due_by x.tracker (access_of x.handle host_read)) }
     {
-        match self.buffers.get(buffer) {
-            Some(store) => store.due(Access::HOST_READ),
+        match self.objects.get(object) {
+            Some(store) => store.due(Access::HOST_READ, None),
             None => None,
         }
     }
 
-    /// The object of a buffer's store.
-    fn id_of(&self, buffer: u32) -> HandleId
-        requires { IsSome ((face self.now).objects (Buffer buffer)) }
-        ensures handle { IfSome ((face self.now).objects (Buffer buffer)) (λ x. x.handle ≡ result.0) }
-        ensures size { (size : ℕ) → HasStore (face self.now) buffer size → size ≤ the_end }
+    /// The handle of an object's store.
+    fn id_of(&self, object: Object) -> HandleId
+        requires { IsSome ((face self.now).objects object) }
+        ensures handle { IfSome ((face self.now).objects object) (λ x. x.handle ≡ result.0) }
+        ensures size { (size : ℕ) → HasStore (face self.now) object (kind.Buffer size) → size ≤ the_end }
     {
-        match self.buffers.get(buffer) {
+        match self.objects.get(object) {
             Some(store) => {
                 // so that the size is known to fit
                 let _ = store.size();
@@ -246,12 +259,16 @@ impl Core {
         }
     }
 
-    /// Waits until each batch that touches a buffer is retired.
-    pub(crate) fn wait_for_uses<L: BackLink>(&self, link: &mut L, buffer: u32) -> Result<(), Stop>
+    /// Waits until each batch that touches an object is retired.
+    pub(crate) fn wait_for_uses<L: BackLink>(
+        &self,
+        link: &mut L,
+        object: Object,
+    ) -> Result<(), Stop>
         requires holds { Holds (face self.now) no_hands (L.state link.old) }
-        requires untouched { IsUntouched (face self.now) buffer }
+        requires untouched { IsUntouched (face self.now) object }
         ensures moved { OnOk result (Moved (face self.now) (L.state link.new) (view (face self.now) (L.state link.old)) (outline_at (face self.now)) (IsQuiet (face self.now) (L.state link.old))) }
-        ensures retired { OnOk result (IsRetired (face self.now) (L.state link.new) buffer) }
+        ensures retired { OnOk result (IsRetired (face self.now) (L.state link.new) object) }
         ensures same { OnOk result ((L.state link.new).mine ≡ (L.state link.old).mine) }
         ensures err { OnErr result (Owns (face self.now).objects (L.state link.new)) }
         ensures cause { HasCause (L.faults link.old) (L.faults link.new) result }
@@ -260,7 +277,7 @@ impl Core {
         waiting_comes_to();
         for place in 0..8u8 {
             let index = SerialIndex::new(8 * self.group + place);
-            let number = self.last_use(index, buffer);
+            let number = self.last_use(index, object);
             if number > 0 {
                 match link.wait_for(QueueSerial { index, number }) {
                     Ok(()) => {}
@@ -271,12 +288,12 @@ impl Core {
         Ok(())
     }
 
-    /// The number of the last batch of an index that uses a buffer's store, or 0.
-    fn last_use(&self, index: SerialIndex, buffer: u32) -> u64
-        ensures used { IfSome ((face self.now).objects (Buffer buffer)) (λ x. result ≡ x.slot.used index) }
-        ensures none { IfNone ((face self.now).objects (Buffer buffer)) (result ≡ 0) }
+    /// The number of the last batch of an index that uses an object's store, or 0.
+    fn last_use(&self, index: SerialIndex, object: Object) -> u64
+        ensures used { IfSome ((face self.now).objects object) (λ x. result ≡ x.slot.used index) }
+        ensures none { IfNone ((face self.now).objects object) (result ≡ 0) }
     {
-        match self.buffers.get(buffer) {
+        match self.objects.get(object) {
             Some(store) => store.last_use(index),
             None => 0,
         }

@@ -1,5 +1,5 @@
 use Rattle.std.proofs.Common.{sym, ◌∙◌}
-use Rattle.front_model.specs.Face.{Buffer}
+use Rattle.front_model.specs.declared.object.Object.TheVariants.{Buffer}
 use Rattle.front_model.specs.Stands.{IsKnownToHost, no_hands, host_touch}
 use Rattle.front_moves.proofs.Settling.{store_of}
 use Rattle.front_moves.proofs.reading_comes_to.settle_comes_to.Goals as goal

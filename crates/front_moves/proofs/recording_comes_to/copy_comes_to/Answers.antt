@@ -13,17 +13,19 @@ use Rattle.front_model.proofs.LinkSteps.{own_or_not}
 use Rattle.front_model.proofs.Orders.{none_right}
 use Rattle.vk_types.specs.declared.handles.HandleId.{HandleId}
 use Rattle.tables.specs.Table.{entry}
-use Rattle.buffer_helper.specs.Buffers.{BufferStore, access_of}
-use Rattle.front_model.specs.Face.{Buffer, Face, outline_at, view, nodes_touch}
+use Rattle.object_helper.specs.Objects.{ObjectStore, access_of}
+use Rattle.front_model.specs.declared.object.Object.TheVariants.{Buffer}
+use Rattle.front_model.specs.Face.{Face, outline_at, view, nodes_touch}
 use Rattle.front_model.specs.Stands.{Holds, IsQuiet, no_hands}
 use Rattle.front_model.specs.Steps.{MayRecord, with_nodes}
-use Rattle.front_moves.specs.Buffers.{stored_of}
+use Rattle.front_moves.specs.Objects.{key_of, stored_of}
+use Rattle.front_moves.proofs.Keys.{same_key}
 use Rattle.front_moves.specs.Core.{CoreParts, face, IsReadTogether, NoneConflicts}
 use Rattle.front_moves.proofs.Recorded.{accessed_recorded, face_recorded, outlines_recorded}
 use Rattle.front_moves.proofs.Dues.{Copied, copied}
 use Rattle.front_moves.proofs.Recordable.{copy_node, copy_touches, copy_where, copy_may, IsFree}
 use Rattle.front_moves.proofs.Sharing.{copy_apart}
-use Rattle.front_moves.proofs.BufferStores.{IsStore, store_of, store_at, Distinct, handle_is, other_handle, buffer_free, buffer_parted}
+use Rattle.front_moves.proofs.ObjectStores.{IsStore, store_of, store_at, Distinct, handle_is, other_handle, buffer_free, buffer_parted}
 use Rattle.front_moves.proofs.recording_comes_to.copy_comes_to.Goals as goal
 
 -- stores of one buffer are one object
@@ -35,13 +37,17 @@ one_store c a b from to m n distinct x y e =
 -- and one buffer has one object
 one_object : (c : CoreParts) (a b : ℕ) (from to : HandleId) (m n : ℕ) → IsStore c a from m → IsStore c b to n → a ≡ b → from.0 ≡ to.0
 one_object c a b from to m n x y e =
-    let same : Some x.store ≡ Some y.store = sym x.is ∙ (ap (λ k. entry k c.buffers) e ∙ y.is) in
+    let same : Some x.store ≡ Some y.store = sym x.is ∙ (ap (λ n. entry (key_of (Buffer n)) c.stores) e ∙ y.is) in
     let one : x.store ≡ y.store = cc in
-    sym x.handle ∙ (ap (λ (z : BufferStore). z.handle.0) one ∙ y.handle)
+    sym x.handle ∙ (ap (λ (z : ObjectStore). z.handle.0) one ∙ y.handle)
+
+-- buffers under one key are one
+same_number : (a b : ℕ) → key_of (Buffer a) ≡ key_of (Buffer b) → a ≡ b
+same_number a b e = let same : Buffer a ≡ Buffer b = same_key (Buffer a) (Buffer b) e in cc
 
 -- the copy and the barriers before it do not conflict with what is pending in another context
 copy_parted : (c : CoreParts) (s : Link) (index src src_at dst dst_at size src_len dst_len : ℕ) (from to : HandleId) (one other : Option Barrier) → Holds (face c) no_hands s →
-    HasBuffer (not (src == dst)) c index src from src_len → HasBuffer false c index dst to dst_len → IsStore c src from src_len → IsStore c dst to dst_len → IsDueBefore src dst c.buffers one other →
+    HasBuffer (not (src == dst)) c index src from src_len → HasBuffer false c index dst to dst_len → IsStore c src from src_len → IsStore c dst to dst_len → IsDueBefore (key_of (Buffer src)) (key_of (Buffer dst)) c.stores one other →
     IsFence from one → IsFence to other → (i : ℕ) → i ≢ index → NoConflict (behind_both one other (copy_node from src_at to dst_at size)) ((face c).pending i)
 copy_parted c s index src src_at dst dst_at size src_len dst_len from to one other h at_src at_dst a b due first second i ne =
     go (at_src.parted i ne (stored_of a.store) at_store) (own_or_not (face c).group i)
@@ -58,7 +64,7 @@ copy_parted c s index src src_at dst dst_at size src_len dst_len from to one oth
     none_due : not (src == dst) ≡ true → IsReadTogether ((face c).pending i) (stored_of a.store) → one ≡ None
     none_due reads together =
         subst (λ o. IfSome o (λ x. one ≡ due_by x.tracker (access_of x.handle transfer_read))) a.is
-        (due.source (λ same. false≢true (sym (ap not (eq-eqb src dst same)) ∙ reads)))
+        (due.source (λ same. false≢true (sym (ap not (eq-eqb src dst (same_number src dst same))) ∙ reads)))
         ∙ together.due
 
     go : NoneConflicts (not (src == dst)) ((face c).pending i) (stored_of a.store) → IsOfGroup (face c).group i ⊎ (IsOfGroup (face c).group i → ⊥) → NoConflict nodes ((face c).pending i)
@@ -81,19 +87,19 @@ returns l = record {
       let free_a : IsFree f no_hands s from src_at size = buffer_free (not (src == dst)) c no_hands s serial.index src from src_len src_at size h at_src a some src_in in
       let free_b : IsFree f no_hands s to dst_at size = buffer_free false c no_hands s serial.index dst to dst_len dst_at size h at_dst b some dst_in in
       let laws = l.due_nodes_may_be_recorded.ensures in
-      let copied' : Copied c s src dst one other from to n =
+      let copied' : Copied c s (key_of (Buffer src)) (key_of (Buffer dst)) one other from to n =
       copied laws.told l.due_barriers_fit.ensures.of l.due_barriers_fit.ensures.layouts laws.node laws.behind c no_hands s h src dst one other from to src_at dst_at size src_len dst_len a b due
-      (one_object c src dst from to src_len dst_len a b) (one_store c src dst from to src_len dst_len distinct a b) in
-      let recorded : IsRecorded c d place nodes serial (λ k. (k == src) || (k == dst)) = accessed_recorded c d place nodes serial (λ k. (k == src) || (k == dst)) (copy_access src dst) accessed copied'.accesses in
+      (λ e. one_object c src dst from to src_len dst_len a b (same_number src dst e)) (λ e. ap (λ n. key_of (Buffer n)) (one_store c src dst from to src_len dst_len distinct a b e)) in
+      let recorded : IsRecorded c d place nodes serial (λ k. (k == key_of (Buffer src)) || (k == key_of (Buffer dst))) = accessed_recorded c d place nodes serial (λ k. (k == key_of (Buffer src)) || (k == key_of (Buffer dst))) (copy_access (key_of (Buffer src)) (key_of (Buffer dst))) accessed copied'.accesses in
       let may : MayRecord f no_hands s serial.index nodes =
       copy_may f no_hands s serial.index one other from src_at to dst_at size next.group next.few copied'.ordered copied'.first copied'.second some free_a free_b
       (copy_parted c s serial.index src src_at dst dst_at size src_len dst_len from to one other h at_src at_dst a b due copied'.first copied'.second)
       (λ e. apart (one_store c src dst from to src_len dst_len distinct a b e)) in
-      let touch : (k : ℕ) (x : BufferStore) → entry k c.buffers ≡ Some x → nodes_touch nodes x.handle.0 ≡ ((k == src) || (k == dst)) =
+      let touch : (k : ℕ) (x : ObjectStore) → entry k c.stores ≡ Some x → nodes_touch nodes x.handle.0 ≡ ((k == key_of (Buffer src)) || (k == key_of (Buffer dst))) =
       λ k x is. copy_touches one other from src_at to dst_at size x.handle.0 copied'.first copied'.second
       ∙ ap (λ t. t || (to.0 == x.handle.0)) (handle_is c k src from src_len x distinct a is)
-      ∙ ap (λ t. (k == src) || t) (handle_is c k dst to dst_len x distinct b is) in
-      let same : face d ≡ with_nodes f serial.index nodes = face_recorded c d no_hands s place nodes serial (λ k. (k == src) || (k == dst)) h next recorded touch in
+      ∙ ap (λ t. (k == key_of (Buffer src)) || t) (handle_is c k dst to dst_len x distinct b is) in
+      let same : face d ≡ with_nodes f serial.index nodes = face_recorded c d no_hands s place nodes serial (λ k. (k == key_of (Buffer src)) || (k == key_of (Buffer dst))) h next recorded touch in
       record {
         holds = subst (λ g. Holds g no_hands s) (sym same) (l.steps_hold.ensures.records f no_hands s serial.index nodes h may);
         view_is = ap (λ g. view g s) same

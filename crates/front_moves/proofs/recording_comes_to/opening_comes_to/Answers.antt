@@ -1,4 +1,4 @@
-use Rattle.front_moves.specs.Buffers.{fenced_in}
+use Rattle.front_moves.specs.Objects.{key_of, fenced_in}
 use Rattle.std.specs.Prelude.{IfSome, Option, Some, None}
 use Rattle.std.specs.List.{AllByRecursion}
 use Rattle.std.specs.Option.{option_map}
@@ -16,8 +16,8 @@ use Rattle.front_model.proofs.Base.{map_is, put-other}
 use Rattle.std.proofs.lemmas.Bool.{cond-true, eq-eqb}
 use Rattle.std.proofs.Common.{List, inl}
 use Rattle.back_core.specs.Link.{Link}
-use Rattle.buffer_helper.specs.Buffers.{BufferStore, access_of}
-use Rattle.front_moves.specs.Buffers.{stored_of}
+use Rattle.object_helper.specs.Objects.{ObjectStore, access_of}
+use Rattle.front_moves.specs.Objects.{stored_of}
 use Rattle.front_moves.specs.Core.{CoreParts, face, IsOpen, IsParted}
 use Rattle.front_moves.specs.Recording.{IsNextSerial, HasBuffer, IsOpened, IsFence}
 use Rattle.std.proofs.Common.{◌≡◌, ℕ, ◌+◌, ◌==◌, false, [], ◌∷◌, ◌++◌, refl, sym, ◌∙◌, ap, subst, inr}
@@ -26,13 +26,14 @@ use Rattle.vk_types.specs.declared.handles.Kind.TheVariants as kind
 use Rattle.vk_types.specs.declared.batches.QueueSerial.{QueueSerial}
 use Rattle.vk_model.specs.Fitting.{LayoutsFit}
 use Rattle.tables.specs.Table.{Entries, entry}
-use Rattle.front_model.specs.Face.{Buffer, Stored, Face, outline_at, view, nodes_touch}
+use Rattle.front_model.specs.declared.object.Object.TheVariants.{Buffer}
+use Rattle.front_model.specs.Face.{Stored, Face, outline_at, view, nodes_touch}
 use Rattle.front_model.specs.Stands.{Holds, IsQuiet, no_hands}
 use Rattle.front_moves.proofs.Recorded.{opened_recorded, face_recorded, outlines_recorded}
 use Rattle.front_moves.proofs.Recordable.{barrier_touches, barrier_may}
 use Rattle.front_moves.proofs.Fencing.{fence_use}
 use Rattle.front_moves.proofs.Dues.{TellsDue, DueOf, DueLayouts, no_image, store_due, due_fence, some_host, if_there, opens}
-use Rattle.front_moves.proofs.BufferStores.{IsStore, store_of, store_at, Distinct, handle_is, other_handle, buffer_parted}
+use Rattle.front_moves.proofs.ObjectStores.{IsStore, store_of, store_at, Distinct, handle_is, other_handle, buffer_parted}
 use Rattle.front_moves.proofs.Sharing.{untouched}
 use Rattle.front_moves.proofs.recording_comes_to.opening_comes_to.Goals as goal
 
@@ -44,9 +45,9 @@ record Opened (c : CoreParts) (s : Link) (b : ℕ) (id : HandleId) (barrier : Ba
   image : is_image_of s id.0 ≡ false
 
 opened : (tells : TellsDue) (of : DueOf) (layouts : DueLayouts) (c : CoreParts) (s : Link) (b len : ℕ) (id : HandleId) (barrier : Barrier) → Holds (face c) no_hands s → IsStore c b id len →
-    IfSome (entry b c.buffers) (λ x. Some barrier ≡ due_by x.tracker (access_of x.handle host_read)) → Opened c s b id barrier
+    IfSome (entry (key_of (Buffer b)) c.stores) (λ x. Some barrier ≡ due_by x.tracker (access_of x.handle host_read)) → Opened c s b id barrier
 opened tells of layouts c s b len id barrier h at is =
-    let told : Some barrier ≡ due_by at.store.tracker (access_of at.store.handle host_read) = if_there (λ x. Some barrier ≡ due_by x.tracker (access_of x.handle host_read)) (entry b c.buffers) at.store is at.is in
+    let told : Some barrier ≡ due_by at.store.tracker (access_of at.store.handle host_read) = if_there (λ x. Some barrier ≡ due_by x.tracker (access_of x.handle host_read)) (entry (key_of (Buffer b)) c.stores) at.store is at.is in
     let due : Some barrier ≡ barrier_due id (is_image_of s id.0) (uses_of (face c) s id.0) (access_of id host_read) = told ∙ store_due c no_hands s h tells b id len at host_read in
     let image : is_image_of s id.0 ≡ false = no_image c no_hands s h b id len at in
     record {
@@ -57,36 +58,36 @@ opened tells of layouts c s b len id barrier h at is =
 
 -- the front after the barrier
 after : (c d : CoreParts) (s : Link) (place b len : ℕ) (serial : QueueSerial) (id : HandleId) (barrier : Barrier) → Holds (face c) no_hands s → Distinct c → IsNextSerial c place serial → (of : IsStore c b id len) → IsFence id (Some barrier) →
-    IsOpened c d place barrier serial b → face d ≡ with_nodes (face c) serial.index (barrier_node barrier ∷ [])
+    IsOpened c d place barrier serial (key_of (Buffer b)) → face d ≡ with_nodes (face c) serial.index (barrier_node barrier ∷ [])
 after c d s place b len serial id barrier h distinct next of fence was_opened =
-    face_recorded c d no_hands s place (barrier_node barrier ∷ []) serial (λ k. k == b) h next
-    (opened_recorded c d place barrier serial b was_opened
+    face_recorded c d no_hands s place (barrier_node barrier ∷ []) serial (λ k. k == key_of (Buffer b)) h next
+    (opened_recorded c d place barrier serial (key_of (Buffer b)) was_opened
     (λ x is. let both : Some of.store ≡ Some x = sym of.is ∙ is in let one : of.store ≡ x = cc in
-    subst (λ (y : BufferStore). uses_in (commands 0 (barrier_node barrier ∷ [])) y.handle.0 ≡ Fenced barrier ∷ []) one (ap (uses_in (commands 0 (barrier_node barrier ∷ []))) of.handle ∙ fence_use id (Some barrier) fence)))
+    subst (λ (y : ObjectStore). uses_in (commands 0 (barrier_node barrier ∷ [])) y.handle.0 ≡ Fenced barrier ∷ []) one (ap (uses_in (commands 0 (barrier_node barrier ∷ []))) of.handle ∙ fence_use id (Some barrier) fence)))
     (λ k x is. barrier_touches barrier id x.handle.0 (fence barrier refl).0 ∙ handle_is c k b id len x distinct of is)
 
-still_parted : (c : CoreParts) (index b len : ℕ) (id : HandleId) (nodes : List Node) → HasBuffer false c index b id len → IsParted false (with_nodes (face c) index nodes) index b
+still_parted : (c : CoreParts) (index b len : ℕ) (id : HandleId) (nodes : List Node) → HasBuffer false c index b id len → IsParted false (with_nodes (face c) index nodes) index (Buffer b)
 still_parted c index b len id nodes has i ne x at =
     let from = map_is (noted_store index ((face c).last index + 1) nodes) ((face c).objects (Buffer b)) x at in
     inl (ap (λ l. nodes_touch l x.handle) (put-other (face c).pending index ((face c).pending index ++ nodes) i ne)
     ∙ subst (λ (y : Stored). nodes_touch ((face c).pending i) y.handle ≡ false) from.2 (untouched ((face c).pending i) from.0 (has.parted i ne from.0 from.1)))
 
-is_open : (c d : CoreParts) (place b : ℕ) (serial : QueueSerial) (barrier : Barrier) → IfSome (entry b c.buffers) (λ x. Some barrier ≡ due_by x.tracker (access_of x.handle host_read)) → IsOpened c d place barrier serial b → IsOpen (face d) b
-is_open c d place b serial barrier is was_opened x at = go (entry b c.buffers) is (sym now ∙ at)
+is_open : (c d : CoreParts) (place b : ℕ) (serial : QueueSerial) (barrier : Barrier) → IfSome (entry (key_of (Buffer b)) c.stores) (λ x. Some barrier ≡ due_by x.tracker (access_of x.handle host_read)) → IsOpened c d place barrier serial (key_of (Buffer b)) → IsOpen (face d) (Buffer b)
+is_open c d place b serial barrier is was_opened x at = go (entry (key_of (Buffer b)) c.stores) is (sym now ∙ at)
   where
-    now : (face d).objects (Buffer b) ≡ option_map stored_of (option_map (fenced_in serial barrier) (entry b c.buffers))
-    now = ap (option_map stored_of) (was_opened.buffers b ∙ cond-true (b == b) (option_map (fenced_in serial barrier) (entry b c.buffers)) (entry b c.buffers) (eq-eqb b b refl))
+    now : (face d).objects (Buffer b) ≡ option_map stored_of (option_map (fenced_in serial barrier) (entry (key_of (Buffer b)) c.stores))
+    now = ap (option_map stored_of) (was_opened.stores (key_of (Buffer b)) ∙ cond-true (key_of (Buffer b) == key_of (Buffer b)) (option_map (fenced_in serial barrier) (entry (key_of (Buffer b)) c.stores)) (entry (key_of (Buffer b)) c.stores) (eq-eqb (key_of (Buffer b)) (key_of (Buffer b)) refl))
 
-    go : (o : Option BufferStore) → IfSome o (λ x. Some barrier ≡ due_by x.tracker (access_of x.handle host_read)) → option_map stored_of (option_map (fenced_in serial barrier) o) ≡ Some x → due_by x.slot.tracker (host_touch x.handle) ≡ None
+    go : (o : Option ObjectStore) → IfSome o (λ x. Some barrier ≡ due_by x.tracker (access_of x.handle host_read)) → option_map stored_of (option_map (fenced_in serial barrier) o) ≡ Some x → due_by x.slot.tracker (host_touch x.handle) ≡ None
     go None is e = cc
     go (Some y) is e =
         let both : stored_of (fenced_in serial barrier y) ≡ x = cc in
         subst (λ (z : Stored). due_by z.slot.tracker (host_touch z.handle) ≡ None) both (opens y.tracker y.handle barrier (sym is))
 
-open_now : (c : CoreParts) (b : ℕ) → IfSome (entry b c.buffers) (λ x. None ≡ due_by x.tracker (access_of x.handle host_read)) → IsOpen (face c) b
-open_now c b is x at = go (entry b c.buffers) is at
+open_now : (c : CoreParts) (b : ℕ) → IfSome (entry (key_of (Buffer b)) c.stores) (λ x. None ≡ due_by x.tracker (access_of x.handle host_read)) → IsOpen (face c) (Buffer b)
+open_now c b is x at = go (entry (key_of (Buffer b)) c.stores) is at
   where
-    go : (o : Option BufferStore) → IfSome o (λ x. None ≡ due_by x.tracker (access_of x.handle host_read)) → option_map stored_of o ≡ Some x → due_by x.slot.tracker (host_touch x.handle) ≡ None
+    go : (o : Option ObjectStore) → IfSome o (λ x. None ≡ due_by x.tracker (access_of x.handle host_read)) → option_map stored_of o ≡ Some x → due_by x.slot.tracker (host_touch x.handle) ≡ None
     go None is e = cc
     go (Some y) is e = let both : stored_of y ≡ x = cc in subst (λ (z : Stored). due_by z.slot.tracker (host_touch z.handle) ≡ None) both (sym is)
 
@@ -100,7 +101,7 @@ returns l = record {
       let at = store_at c b of.store of.is in
       let laws = l.due_nodes_may_be_recorded.ensures in
       let o : Opened c s b id barrier = opened laws.told l.due_barriers_fit.ensures.of l.due_barriers_fit.ensures.layouts c s b len id barrier h of is in
-      let kind_is : s.kinds id.0 ≡ Some (kind.Buffer of.store.size) = ap s.kinds (sym of.handle) ∙ l.steps_may.ensures.kinds f no_hands s (Buffer b) (stored_of of.store) h at in
+      let kind_is : s.kinds id.0 ≡ Some (kind.Buffer len) = ap s.kinds (sym of.handle) ∙ l.steps_may.ensures.kinds f no_hands s (Buffer b) (stored_of of.store) h at ∙ ap Some of.is_buffer in
       let ordered : IsOrdered f s nodes = subst (λ d. IsOrdered f s (node_for d)) o.due (laws.host f no_hands s id.0 h o.image) in
       let keep : AllByRecursion KeepsContents nodes = subst (λ d. AllByRecursion KeepsContents (node_for d)) o.due (laws.keeps f s id.0 o.image) in
       let may : MayRecord f no_hands s serial.index nodes =
@@ -121,7 +122,7 @@ returns l = record {
       let of : IsStore c b id len = store_of false c serial.index b id len has in
       let o : Opened c s b id barrier = opened l.due_nodes_may_be_recorded.ensures.told l.due_barriers_fit.ensures.of l.due_barriers_fit.ensures.layouts c s b len id barrier h of is in
       let same : face d ≡ with_nodes (face c) serial.index (barrier_node barrier ∷ []) = after c d s place b len serial id barrier h distinct next of o.fence was_opened in (
-        subst (λ g. IsParted false g serial.index b) (sym same) (still_parted c serial.index b len id (barrier_node barrier ∷ []) has),
+        subst (λ g. IsParted false g serial.index (Buffer b)) (sym same) (still_parted c serial.index b len id (barrier_node barrier ∷ []) has),
         is_open c d place b serial barrier is was_opened,
       );
   already = λ c s index b len id h has is. (has.parted, open_now c b is, record { holds = h; view_is = refl; outlines_are = refl; still = λ o q. q.0 });

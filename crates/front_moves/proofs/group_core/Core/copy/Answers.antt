@@ -1,6 +1,7 @@
 use Rattle.std.proofs.Common.{◌==◌, false, sym, subst, arith}
 use Rattle.std.specs.Prelude.{not}
 use Rattle.std.proofs.lemmas.Result.{on_ok_weaker}
+use Rattle.front_model.specs.declared.object.Object.TheVariants.{Buffer}
 use Rattle.front_moves.specs.Core.{face, IsParted}
 use Rattle.front_moves.proofs.AtBack.{did_for, might_stop, good_then}
 use Rattle.front_moves.proofs.Handing.{first_parts, second_parts}
@@ -10,13 +11,13 @@ use Rattle.front_moves.proofs.group_core.Core.copy.Goals as goal
 
 pub record_copy-requires-clause-source_parted : goal.record_copy-requires-clause-source_parted
 record_copy-requires-clause-source_parted g c =
-    subst (λ i. IsParted (not (c.args.src == c.args.dst)) (face c.prepare-in-Ok.new.self) i c.args.src) (sym c.next_serial-serial.ensures.index)
-    (parted_more (not (c.args.src == c.args.dst)) (face c.prepare.new.self) (face c.prepare-in-Ok.new.self) c.args.index c.args.src c.in-Ok-prepare.ensures.flushed
+    subst (λ i. IsParted (not (c.args.src == c.args.dst)) (face c.prepare-in-Ok.new.self) i (Buffer c.args.src)) (sym c.next_serial-serial.ensures.index)
+    (parted_more (not (c.args.src == c.args.dst)) (face c.prepare.new.self) (face c.prepare-in-Ok.new.self) c.args.index (Buffer c.args.src) c.in-Ok-prepare.ensures.flushed
     c.in-Ok.ensures.parted)
 
 pub record_copy-requires-clause-parted : goal.record_copy-requires-clause-parted
 record_copy-requires-clause-parted g c =
-    subst (λ i. IsParted false (face c.prepare-in-Ok.new.self) i c.args.dst) (sym c.next_serial-serial.ensures.index) c.in-Ok-prepare.ensures.parted
+    subst (λ i. IsParted false (face c.prepare-in-Ok.new.self) i (Buffer c.args.dst)) (sym c.next_serial-serial.ensures.index) c.in-Ok-prepare.ensures.parted
 
 pub record_copy-requires-clause-source : goal.record_copy-requires-clause-source
 record_copy-requires-clause-source g c =
@@ -44,13 +45,13 @@ returns-in-Ok-prepare-clause-moved g c =
 
 pub returns-in-Ok-prepare-clause-at_back : goal.returns-in-Ok-prepare-clause-at_back
 returns-in-Ok-prepare-clause-at_back g c =
-    might_stop (good_then (omega arith) (first_parts (face c.args.self.now) c.args.index (c.args.src, not (c.args.src == c.args.dst)) (c.args.dst, false))
-    (second_parts (face c.args.self.now) (face c.prepare.new.self) c.args.index (c.args.src, not (c.args.src == c.args.dst)) (c.args.dst, false) c.in-Ok.ensures.flushed.objects) c.in-Ok.ensures.at_back c.in-Ok-prepare.ensures.at_back)
+    might_stop (good_then (omega arith) (first_parts (face c.args.self.now) c.args.index (Buffer c.args.src, not (c.args.src == c.args.dst)) (Buffer c.args.dst, false))
+    (second_parts (face c.args.self.now) (face c.prepare.new.self) c.args.index (Buffer c.args.src, not (c.args.src == c.args.dst)) (Buffer c.args.dst, false) c.in-Ok.ensures.flushed.objects) c.in-Ok.ensures.at_back c.in-Ok-prepare.ensures.at_back)
 
 pub returns-in-Err-prepare-clause-at_back : goal.returns-in-Err-prepare-clause-at_back
 returns-in-Err-prepare-clause-at_back g c =
-    good_then (omega arith) (first_parts (face c.args.self.now) c.args.index (c.args.src, not (c.args.src == c.args.dst)) (c.args.dst, false))
-    (second_parts (face c.args.self.now) (face c.prepare.new.self) c.args.index (c.args.src, not (c.args.src == c.args.dst)) (c.args.dst, false) c.in-Ok.ensures.flushed.objects) c.in-Ok.ensures.at_back c.in-Err-prepare.ensures.at_back
+    good_then (omega arith) (first_parts (face c.args.self.now) c.args.index (Buffer c.args.src, not (c.args.src == c.args.dst)) (Buffer c.args.dst, false))
+    (second_parts (face c.args.self.now) (face c.prepare.new.self) c.args.index (Buffer c.args.src, not (c.args.src == c.args.dst)) (Buffer c.args.dst, false) c.in-Ok.ensures.flushed.objects) c.in-Ok.ensures.at_back c.in-Err-prepare.ensures.at_back
 
 pub returns-in-Err-clause-at_back : goal.returns-in-Err-clause-at_back
-returns-in-Err-clause-at_back g c = did_for (omega arith) (first_parts (face c.args.self.now) c.args.index (c.args.src, not (c.args.src == c.args.dst)) (c.args.dst, false)) c.in-Err.ensures.at_back
+returns-in-Err-clause-at_back g c = did_for (omega arith) (first_parts (face c.args.self.now) c.args.index (Buffer c.args.src, not (c.args.src == c.args.dst)) (Buffer c.args.dst, false)) c.in-Err.ensures.at_back

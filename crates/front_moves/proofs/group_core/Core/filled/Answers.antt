@@ -1,4 +1,5 @@
 use Rattle.std.proofs.Common.{length, rules, arith}
+use Rattle.vk_types.specs.declared.handles.Kind.TheVariants as kind
 use Rattle.back_core.specs.Frame.{NoBatch}
 use Rattle.front_moves.specs.Core.{face}
 use Rattle.front_moves.proofs.AtBack.{did_for, handless_then, then_quietly}
@@ -10,7 +11,7 @@ write_host-requires g c =
 
 pub abandon-requires : goal.abandon-requires
 abandon-requires g c =
-    rw c.in-Err-write_host.ensures.err (c.filled_comes_to.ensures.held (face c.args.self.now) (g.L.BackLink.state c.blank.new.link) c.in-Ok.handle.0 (length c.args.bytes.now) c.in-Ok.ensures.ok.holds)
+    rw c.in-Err-write_host.ensures.err (c.filled_comes_to.ensures.held (face c.args.self.now) (g.L.BackLink.state c.blank.new.link) c.in-Ok.handle.0 (kind.Buffer (length c.args.bytes.now)) c.in-Ok.ensures.ok.holds)
 
 pub returns-in-Ok-write_host-clause-ok : goal.returns-in-Ok-write_host-clause-ok
 returns-in-Ok-write_host-clause-ok g c =
@@ -19,7 +20,7 @@ returns-in-Ok-write_host-clause-ok g c =
 
 pub returns-in-Err-write_host-clause-err : goal.returns-in-Err-write_host-clause-err
 returns-in-Err-write_host-clause-err g c =
-    rw (c.abandon.ensures.state, c.in-Err-write_host.ensures.err) (c.filled_comes_to.ensures.let_go (face c.args.self.now) (g.L.BackLink.state c.blank.new.link) c.in-Ok.handle.0 (length c.args.bytes.now) c.in-Ok.ensures.ok.holds)
+    rw (c.abandon.ensures.state, c.in-Err-write_host.ensures.err) (c.filled_comes_to.ensures.let_go (face c.args.self.now) (g.L.BackLink.state c.blank.new.link) c.in-Ok.handle.0 (kind.Buffer (length c.args.bytes.now)) c.in-Ok.ensures.ok.holds)
 
 pub returns-in-Ok-write_host-clause-at_back : goal.returns-in-Ok-write_host-clause-at_back
 returns-in-Ok-write_host-clause-at_back g c = handless_then (omega arith) c.in-Ok.ensures.at_back c.in-Ok-write_host.ensures.at_back

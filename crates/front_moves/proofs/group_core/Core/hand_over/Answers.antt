@@ -15,7 +15,7 @@ use Rattle.front_moves.proofs.group_core.Core.hand_over.Goals.{in-Ok, in-Err}
 
 pub enqueue-requires : goal.enqueue-requires
 enqueue-requires g c =
-    let k : CoreParts = record { indexes = c.self.inside.indexes; pending = c.self.inside.pending; buffers = c.self.inside.buffers } in
+    let k : CoreParts = record { indexes = c.self.inside.indexes; pending = c.self.inside.pending; stores = c.self.inside.objects } in
     let s : Link = g.L.BackLink.state c.args.link.now in
     let batch : Batch = record { index = c.args.index; number = c.next-number.result; queue = 0; waits = c.of.result; signals = c.of-2.result; nodes = c.of-3.result; reason = c.args.reason } in
     let here : IsAtPlace k s c.args.index c.place-place.result = same_place k c.args.self.now s c.args.index c.place-place.result c.self.view_is c.requires.holds c.requires.group c.place-place.ensures.place in
@@ -25,8 +25,8 @@ enqueue-requires g c =
 
 pub returns : goal.returns
 returns g c =
-    let k : CoreParts = record { indexes = c.self.inside.indexes; pending = c.self.inside.pending; buffers = c.self.inside.buffers } in
-    let d : CoreParts = record { indexes = c.next-number.new.self; pending = c.take.new.self; buffers = c.self.inside.buffers } in
+    let k : CoreParts = record { indexes = c.self.inside.indexes; pending = c.self.inside.pending; stores = c.self.inside.objects } in
+    let d : CoreParts = record { indexes = c.next-number.new.self; pending = c.take.new.self; stores = c.self.inside.objects } in
     let s : Link = g.L.BackLink.state c.args.link.now in
     let t : Link = g.L.BackLink.state c.enqueue.new.self in
     let batch : Batch = record { index = c.args.index; number = c.next-number.result; queue = 0; waits = c.of.result; signals = c.of-2.result; nodes = c.of-3.result; reason = c.args.reason } in

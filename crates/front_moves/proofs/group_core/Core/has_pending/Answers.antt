@@ -6,7 +6,7 @@ use Rattle.front_moves.proofs.group_core.Core.has_pending.Goals as goal
 
 pub returns : goal.returns
 returns c =
-    let k : CoreParts = record { indexes = c.self.inside.indexes; pending = c.self.inside.pending; buffers = c.self.inside.buffers } in
+    let k : CoreParts = record { indexes = c.self.inside.indexes; pending = c.self.inside.pending; stores = c.self.inside.objects } in
     let n : c.len.result ≡ length ((face c.args.self.now).pending c.args.index) =
     pending_length k c.args.self.now c.args.index c.place.result c.len.result c.self.view_is c.requires.group c.place.ensures.place c.len.ensures in
     record {

@@ -12,17 +12,17 @@ returns-then-conflicts-clause-some g c =
 
 pub returns-then-conflicts-clause-apart : goal.returns-then-conflicts-clause-apart
 returns-then-conflicts-clause-apart g c =
-    on_ok c.flush.result (apart_flushed c.args.reads (face c.args.self.now) (face c.flush.new.self) c.args.index c.args.buffer) c.flush.ensures.flushed
+    on_ok c.flush.result (apart_flushed c.args.reads (face c.args.self.now) (face c.flush.new.self) c.args.index c.args.object) c.flush.ensures.flushed
 
 pub returns-clause-apart : goal.returns-clause-apart
 returns-clause-apart g c =
-    decided c.args.reads (face c.args.self.now) c.args.index c.args.buffer c.conflicts.result false c.if-conflicts.false (c.conflicts.ensures (g.L.BackLink.state c.args.link.now) c.requires.holds)
+    decided c.args.reads (face c.args.self.now) c.args.index c.args.object c.conflicts.result false c.if-conflicts.false (c.conflicts.ensures (g.L.BackLink.state c.args.link.now) c.requires.holds)
 
 pub returns-then-conflicts-clause-at_back : goal.returns-then-conflicts-clause-at_back
 returns-then-conflicts-clause-at_back g c =
     did_for (omega arith)
-    (is_touching (face c.args.self.now) c.args.index c.args.buffer c.args.reads c.args.reason
-    (decided c.args.reads (face c.args.self.now) c.args.index c.args.buffer c.conflicts.result true c.if-conflicts.true (c.conflicts.ensures (g.L.BackLink.state c.args.link.now) c.requires.holds)))
+    (is_touching (face c.args.self.now) c.args.index c.args.object c.args.reads c.args.reason
+    (decided c.args.reads (face c.args.self.now) c.args.index c.args.object c.conflicts.result true c.if-conflicts.true (c.conflicts.ensures (g.L.BackLink.state c.args.link.now) c.requires.holds)))
     c.flush.ensures.at_back
 
 pub returns-clause-at_back : goal.returns-clause-at_back

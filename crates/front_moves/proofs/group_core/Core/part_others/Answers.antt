@@ -10,7 +10,7 @@ use Rattle.front_moves.proofs.group_core.Core.part_others.Goals.{then-ne+in-Ok, 
 pub loop-place-init : goal.loop-place-init
 loop-place-init g c = record {
   some = none_flushed (face c.args.self.now) (g.L.BackLink.state c.args.link.now) c.requires.holds;
-  apart = none_apart c.args.reads (face c.args.self.now) c.args.index c.args.buffer;
+  apart = none_apart c.args.reads (face c.args.self.now) c.args.index c.args.object;
   faults = omega arith;
   at_back = did_nothing (g.L.BackLink.state c.args.link.now) (g.L.BackLink.told c.args.link.now);
 }
@@ -32,16 +32,16 @@ loop-place-preserved g c =
           let also : other ≡ 8 * (face d).group + place = at ∙ ap (λ n. 8 * n + place) (sym some.flushed.group) in
           rw (w.self-is, w.link-is) (record {
             some = flushed_more (face first) (face k) (face d) (g.L.BackLink.state c.args.link.now) before now c.loop-place.invariant.some some;
-            apart = apart_then c.args.reads (face d) c.args.index c.args.buffer place other also (apart_kept c.args.reads (face k) (face d) c.args.index c.args.buffer place some.flushed c.loop-place.invariant.apart) (λ ne. w.in-Ok.ensures.apart);
+            apart = apart_then c.args.reads (face d) c.args.index c.args.object place other also (apart_kept c.args.reads (face k) (face d) c.args.index c.args.object place some.flushed c.loop-place.invariant.apart) (λ ne. w.in-Ok.ensures.apart);
             faults = let low = c.loop-place.invariant.faults in let later = w.part.ensures.cause.later in omega (arith, low, later);
-            at_back = good_then (omega arith) (λ batch may. may) (is_cross (face first) (face k) c.args.index other c.args.buffer c.args.reads c.loop-place.invariant.some.flushed.objects (other_by_test other c.args.index c.ne.result c.ne.ensures w.if-ne.true))
+            at_back = good_then (omega arith) (λ batch may. may) (is_cross (face first) (face k) c.args.index other c.args.object c.args.reads c.loop-place.invariant.some.flushed.objects (other_by_test other c.args.index c.ne.result c.ne.ensures w.if-ne.true))
                 c.loop-place.invariant.at_back w.in-Ok.ensures.at_back;
           })
       | else-ne w ↦
           let same : other ≡ c.args.index = same_by_test other c.args.index c.ne.result c.ne.ensures w.if-ne.false in
           rw (w.self-is, w.link-is) (record {
             some = c.loop-place.invariant.some;
-            apart = apart_then c.args.reads (face k) c.args.index c.args.buffer place other at c.loop-place.invariant.apart (λ ne. absurd (ne same));
+            apart = apart_then c.args.reads (face k) c.args.index c.args.object place other at c.loop-place.invariant.apart (λ ne. absurd (ne same));
             faults = c.loop-place.invariant.faults;
             at_back = c.loop-place.invariant.at_back;
           })
@@ -50,11 +50,11 @@ loop-place-preserved g c =
 pub returns-in-Err-clause-at_back : goal.returns-in-Err-clause-at_back
 returns-in-Err-clause-at_back g c =
     good_then (omega arith) (λ batch may. may)
-    (is_cross (face c.args.self.now) (face c.loop-place.self) c.args.index c.new-other.result c.args.buffer c.args.reads c.loop-place.invariant.some.flushed.objects (other_by_test c.new-other.result c.args.index c.ne.result c.ne.ensures c.if-ne.true))
+    (is_cross (face c.args.self.now) (face c.loop-place.self) c.args.index c.new-other.result c.args.object c.args.reads c.loop-place.invariant.some.flushed.objects (other_by_test c.new-other.result c.args.index c.ne.result c.ne.ensures c.if-ne.true))
     c.loop-place.invariant.at_back c.in-Err.ensures.at_back
 
 pub returns-clause-parted : goal.returns-clause-parted
 returns-clause-parted g c =
     let past : 8 ≤ c.loop-place.place = c.loop-place-test.false in
-    all_apart c.args.reads (face c.loop-place.self) (g.L.BackLink.state c.loop-place.link) c.args.index c.args.buffer c.loop-place.invariant.some.moved.holds
+    all_apart c.args.reads (face c.loop-place.self) (g.L.BackLink.state c.loop-place.link) c.args.index c.args.object c.loop-place.invariant.some.moved.holds
     (λ i own below ne. c.loop-place.invariant.apart i own (omega (arith, below, past)) ne)

@@ -27,7 +27,7 @@ returns-then-len-ge-MOST_PENDING-clause-flushed g c =
 
 pub returns-then-len-ge-MOST_PENDING-clause-parted : goal.returns-then-len-ge-MOST_PENDING-clause-parted
 returns-then-len-ge-MOST_PENDING-clause-parted g c =
-    on_ok_both c.flush.result (λ m one. parted_more c.args.reads (face c.part_others.new.self) (face c.flush.new.self) c.args.index c.args.buffer
+    on_ok_both c.flush.result (λ m one. parted_more c.args.reads (face c.part_others.new.self) (face c.flush.new.self) c.args.index c.args.object
     (some_flushed (face c.part_others.new.self) (face c.flush.new.self) (g.L.BackLink.state c.part_others.new.link) (g.L.BackLink.state c.flush.new.link) c.args.index m one).flushed
     c.in-Ok.ensures.parted) c.flush.ensures.moved c.flush.ensures.flushed
 
@@ -39,18 +39,18 @@ pub returns-then-len-ge-MOST_PENDING-clause-at_back : goal.returns-then-len-ge-M
 returns-then-len-ge-MOST_PENDING-clause-at_back g c =
     let f : Face = face c.args.self.now in
     let h : Face = face c.part_others.new.self in
-    let k : CoreParts = record { indexes = c.self.inside.indexes; pending = c.self.inside.pending; buffers = c.self.inside.buffers } in
+    let k : CoreParts = record { indexes = c.self.inside.indexes; pending = c.self.inside.pending; stores = c.self.inside.objects } in
     let here : IsAtPlace k (g.L.BackLink.state c.part_others.new.link) c.args.index c.place.result =
     same_place k c.part_others.new.self (g.L.BackLink.state c.part_others.new.link) c.args.index c.place.result c.self.view_is c.in-Ok.ensures.some.moved.holds
     (subst (λ n. IsOfGroup n c.args.index) (sym c.in-Ok.ensures.group) c.requires.group) c.place.ensures.place in
     let is : length (h.pending c.args.index) ≡ c.len.result =
     ap (λ (x : CoreParts). length ((face x).pending c.args.index)) (sym c.self.view_is) ∙ ap length (pending_at k.indexes.group k.pending c.args.index c.place.result here.own here.at) ∙ sym c.len.ensures in
     let many : 1024 ≤ length (h.pending c.args.index) = omega arith in
-    good_then (omega arith) (parts_one f c.args.index c.args.buffer c.args.reads) (λ batch flush. parts_full f c.args.index ((c.args.buffer, c.args.reads) ∷ []) batch (is_full h c.args.index many batch flush))
+    good_then (omega arith) (parts_one f c.args.index c.args.object c.args.reads) (λ batch flush. parts_full f c.args.index ((c.args.object, c.args.reads) ∷ []) batch (is_full h c.args.index many batch flush))
     c.in-Ok.ensures.at_back c.flush.ensures.at_back
 
 pub returns-clause-at_back : goal.returns-clause-at_back
-returns-clause-at_back g c = did_for (omega arith) (parts_one (face c.args.self.now) c.args.index c.args.buffer c.args.reads) c.in-Ok.ensures.at_back
+returns-clause-at_back g c = did_for (omega arith) (parts_one (face c.args.self.now) c.args.index c.args.object c.args.reads) c.in-Ok.ensures.at_back
 
 pub returns-in-Err-clause-at_back : goal.returns-in-Err-clause-at_back
-returns-in-Err-clause-at_back g c = did_for (omega arith) (parts_one (face c.args.self.now) c.args.index c.args.buffer c.args.reads) c.in-Err.ensures.at_back
+returns-in-Err-clause-at_back g c = did_for (omega arith) (parts_one (face c.args.self.now) c.args.index c.args.object c.args.reads) c.in-Err.ensures.at_back

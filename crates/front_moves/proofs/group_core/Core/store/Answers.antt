@@ -1,9 +1,9 @@
-use Rattle.std.proofs.Common.{length, Some, arith}
+use Rattle.std.proofs.Common.{length, Some, arith, rules}
 use Rattle.std.proofs.lemmas.Result.{on_ok_weaker}
 use Rattle.front_moves.specs.Core.{face}
 use Rattle.back_core.specs.Frame.{NoBatch}
 use Rattle.front_moves.proofs.AtBack.{did_for, handless_then}
-use Rattle.front_moves.proofs.BufferLaws.{ended_none, stored_anew, stored_nothing}
+use Rattle.front_moves.proofs.StoreLaws.{ended_none, stored_anew, stored_nothing}
 use Rattle.front_moves.proofs.group_core.Core.store.Goals as goal
 
 pub returns-then-is_empty-clause-moved : goal.returns-then-is_empty-clause-moved
@@ -17,7 +17,7 @@ pub returns-in-Ok-clause-moved : goal.returns-in-Ok-clause-moved
 returns-in-Ok-clause-moved g c =
     on_ok_weaker c.begin.result
     (stored_anew (face c.args.self.now) (face c.end.new.self) (face c.begin.new.self) (g.L.BackLink.state c.args.link.now) (g.L.BackLink.state c.end.new.link) (g.L.BackLink.state c.filled.new.link) (g.L.BackLink.state c.begin.new.link)
-    c.args.buffer c.in-Ok.fresh.0 (length c.args.bytes.now) (Some c.args.bytes.now) c.end.ensures.moved c.in-Ok.ensures.ok)
+    c.args.buffer c.in-Ok.fresh.0 (length c.args.bytes.now) (Some c.args.bytes.now) (search rules) c.end.ensures.moved c.in-Ok.ensures.ok)
     c.begin.ensures.moved
 
 pub returns-then-is_empty-clause-at_back : goal.returns-then-is_empty-clause-at_back

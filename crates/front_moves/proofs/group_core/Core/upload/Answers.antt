@@ -1,5 +1,6 @@
 use Rattle.std.proofs.Common.{length, [], ◌∷◌, arith, false}
 use Rattle.std.proofs.lemmas.Result.{on_ok_weaker}
+use Rattle.front_model.specs.declared.object.Object.TheVariants.{Buffer}
 use Rattle.front_moves.specs.Core.{face}
 use Rattle.front_moves.specs.Reasons.{IsParting}
 use Rattle.front_moves.proofs.AtBack.{did_for, then_handless}
@@ -23,7 +24,7 @@ returns-in-Ok-staged-clause-moved g c =
 pub returns-in-Ok-staged-clause-at_back : goal.returns-in-Ok-staged-clause-at_back
 returns-in-Ok-staged-clause-at_back g c =
     then_handless (omega arith)
-    (then_handless {due = length c.args.bytes.now} {MayHand = IsParting (face c.args.self.now) c.args.index ((c.args.buffer, false) ∷ [])} (omega arith) c.in-Ok.ensures.at_back c.in-Ok-staged.ensures.at_back)
+    (then_handless {due = length c.args.bytes.now} {MayHand = IsParting (face c.args.self.now) c.args.index ((Buffer c.args.buffer, false) ∷ [])} (omega arith) c.in-Ok.ensures.at_back c.in-Ok-staged.ensures.at_back)
     c.record_upload.ensures.at_back
 
 pub returns-in-Err-staged-clause-at_back : goal.returns-in-Err-staged-clause-at_back
