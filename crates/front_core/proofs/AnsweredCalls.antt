@@ -14,7 +14,8 @@ use Rattle.gl_model.specs.Effect.{effect}
 use Rattle.gl_model.specs.Legal.{refused_group, refused, told, after_entry, RepliesBy}
 use Rattle.gl_model.specs.Refusal.{refusal}
 use Rattle.back_core.specs.Link.{Link}
-use Rattle.front_model.specs.Face.{Object, Face, view}
+use Rattle.front_model.specs.declared.object.Object.{Object}
+use Rattle.front_model.specs.Face.{Face, view}
 use Rattle.front_model.specs.Wanted.{kind_wanted, wanted, AgreeWith, IsMapped}
 use Rattle.front_core.specs.Share.{IsStateOf, IsCarriedOut}
 use Rattle.sync_serials.specs.Serials.{SyncTables, SyncsStand}

@@ -1,7 +1,7 @@
 -- What a call does at the back, from what the moves that it is made of do there.
 use Rattle.std.proofs.Common.{arith, ◌≡◌, ◌≢◌, ℕ, ◌+◌, ◌<◌, ◌≤◌, Bool, true, false, Option, Some, None, List, [], ◌∷◌, length, refl, sym, ◌∙◌, ap, subst, inl, inr, get_or, zero, suc}
 use Rattle.std.specs.Prelude.{◌⊎◌, Contains, Result, IfOk, not, ℤ, ◌==◌}
-use Rattle.std.specs.Option.{option_map_or}
+use Rattle.std.specs.Option.{option_map, option_map_or}
 use Rattle.std.proofs.lemmas.Bool.{false≢true, cases_eq, eq-eqb, ne_eqb}
 use Rattle.vk_types.specs.declared.batches.Batch.{Batch}
 use Rattle.vk_types.specs.declared.batches.QueueSerial.{QueueSerial}
@@ -23,6 +23,8 @@ use Rattle.back_core.specs.Link.{Link}
 use Rattle.back_core.specs.Own.{batch_touches}
 use Rattle.back_core.specs.Frame.{AtBack}
 use Rattle.back_core.proofs.Frames.{none_done, within, no_batch}
+use Rattle.front_model.specs.declared.object.Object.{Object}
+use Rattle.front_model.specs.declared.object.Object.TheVariants.{Buffer}
 use Rattle.front_model.specs.Face.{Face, nodes_touch}
 use Rattle.front_moves.specs.Reasons as moves
 use Rattle.front_moves.specs.Reasons.{IsFlushOf, IsFull, IsParting, IsSettling, IsEnding}
@@ -79,14 +81,14 @@ one_of x xs y has = go has.0 has.1 has.2
     go (suc i) lt e = inr (i, omega arith, e)
 
 -- what holds of each of one or two uses holds of each of their list
-pub each_of_one : (P : ℕ × Bool → Type 0) (b : ℕ × Bool) → P b → (c : ℕ × Bool) → Contains (b ∷ []) c → P c
+pub each_of_one : (P : Object × Bool → Type 0) (b : Object × Bool) → P b → (c : Object × Bool) → Contains (b ∷ []) c → P c
 each_of_one P b has c listed = one (one_of b [] c listed)
   where
     one : (b ≡ c) ⊎ Contains [] c → P c
     one (inl same) = subst P same has
     one (inr none) = absurd (omega (arith, none.1))
 
-pub each_of_two : (P : ℕ × Bool → Type 0) (a b : ℕ × Bool) → P a → P b → (c : ℕ × Bool) → Contains (a ∷ b ∷ []) c → P c
+pub each_of_two : (P : Object × Bool → Type 0) (a b : Object × Bool) → P a → P b → (c : Object × Bool) → Contains (a ∷ b ∷ []) c → P c
 each_of_two P a b first second c listed = two (one_of a (b ∷ []) c listed)
   where
     two : (a ≡ c) ⊎ Contains (b ∷ []) c → P c
@@ -94,59 +96,59 @@ each_of_two P a b first second c listed = two (one_of a (b ∷ []) c listed)
     two (inr rest) = each_of_one P b second c rest
 
 -- what goes before a node on buffers that the call uses
-pub parting_is_true : (f : Face) (group : GroupState) (serials : Entries ℕ) (thread : ℕ) (asked : Call) (index : ℕ) (used : List (ℕ × Bool)) → current_index group serials thread ≡ Some index →
-    ((u : ℕ × Bool) → Contains used u → IsUsedBy group thread asked u) → (batch : Batch) → IsParting f index used batch → IsTrueReason f group serials thread asked batch
-parting_is_true f group serials thread asked index used current each batch (moves.cross b reads listed is) = economy.cross index b reads current (each (b, reads) listed) is
+pub parting_is_true : (f : Face) (group : GroupState) (serials : Entries ℕ) (thread : ℕ) (asked : Call) (index : ℕ) (used : List (Object × Bool)) → current_index group serials thread ≡ Some index →
+    ((u : Object × Bool) → Contains used u → IsUsedBy group thread asked u) → (batch : Batch) → IsParting f index used batch → IsTrueReason f group serials thread asked batch
+parting_is_true f group serials thread asked index used current each batch (moves.cross o reads listed is) = economy.cross index o reads current (each (o, reads) listed) is
 parting_is_true f group serials thread asked index used current each batch (moves.full is) = economy.full is
 
 -- what goes before the host uses the buffer that is mapped
-pub settling_is_true : (f : Face) (group : GroupState) (serials : Entries ℕ) (thread : ℕ) (asked : Call) (index b : ℕ) → current_index group serials thread ≡ Some index →
-    IsUsedBy group thread asked (b, false) → maps_a_buffer asked ≡ true → (batch : Batch) → IsSettling f index b batch → IsTrueReason f group serials thread asked batch
-settling_is_true f group serials thread asked index b current used maps batch (moves.parting is) =
-    parting_is_true f group serials thread asked index ((b, false) ∷ []) current (each_of_one (IsUsedBy group thread asked) (b, false) used) batch is
-settling_is_true f group serials thread asked index b current used maps batch (moves.reading of_index for_reason some) =
+pub settling_is_true : (f : Face) (group : GroupState) (serials : Entries ℕ) (thread : ℕ) (asked : Call) (index : ℕ) (o : Object) → current_index group serials thread ≡ Some index →
+    IsUsedBy group thread asked (o, false) → maps_a_buffer asked ≡ true → (batch : Batch) → IsSettling f index o batch → IsTrueReason f group serials thread asked batch
+settling_is_true f group serials thread asked index o current used maps batch (moves.parting is) =
+    parting_is_true f group serials thread asked index ((o, false) ∷ []) current (each_of_one (IsUsedBy group thread asked) (o, false) used) batch is
+settling_is_true f group serials thread asked index o current used maps batch (moves.reading of_index for_reason some) =
     economy.read maps (current ∙ ap Some (sym of_index)) for_reason some
 
 -- the buffer that is bound to the first or the second target that a call uses
 pub used_first : (group : GroupState) (thread : ℕ) (asked : Call) (context : Context) (target : BufferTarget) (reads : Bool) (rest : List (BufferTarget × Bool)) (b : ℕ) → used_targets asked ≡ (target, reads) ∷ rest →
-    current_context group thread ≡ Some context → buffer_binding context target ≡ Some b → IsUsedBy group thread asked (b, reads)
+    current_context group thread ≡ Some context → buffer_binding context target ≡ Some b → IsUsedBy group thread asked (Buffer b, reads)
 used_first group thread asked context target reads rest b uses current bound = record {
   context = context;
   target = target;
   current = current;
   listed = subst (λ ts. Contains ts (target, reads)) (sym uses) (0, omega arith, refl);
-  bound = bound;
+  bound = ap (option_map Buffer) bound;
 }
 
 pub used_second : (group : GroupState) (thread : ℕ) (asked : Call) (context : Context) (first : BufferTarget × Bool) (target : BufferTarget) (reads : Bool) (rest : List (BufferTarget × Bool)) (b : ℕ) → used_targets asked ≡ first ∷ (target, reads) ∷ rest →
-    current_context group thread ≡ Some context → buffer_binding context target ≡ Some b → IsUsedBy group thread asked (b, reads)
+    current_context group thread ≡ Some context → buffer_binding context target ≡ Some b → IsUsedBy group thread asked (Buffer b, reads)
 used_second group thread asked context first target reads rest b uses current bound = record {
   context = context;
   target = target;
   current = current;
   listed = subst (λ ts. Contains ts (target, reads)) (sym uses) (1, omega arith, refl);
-  bound = bound;
+  bound = ap (option_map Buffer) bound;
 }
 
 -- the buffers of a copy: the source is read alone where it is another buffer than the target
 pub used_by_copy : (group : GroupState) (thread : ℕ) (context : Context) (from to : BufferTarget) (read write size : ℤ) (src dst : ℕ) →
     current_context group thread ≡ Some context → buffer_binding context from ≡ Some src → buffer_binding context to ≡ Some dst →
-    (u : ℕ × Bool) → Contains ((src, not (src == dst)) ∷ (dst, false) ∷ []) u → IsUsedBy group thread (call.CopyBufferSubData from to read write size) u
+    (u : Object × Bool) → Contains ((Buffer src, not (src == dst)) ∷ (Buffer dst, false) ∷ []) u → IsUsedBy group thread (call.CopyBufferSubData from to read write size) u
 used_by_copy group thread context from to read write size src dst current source target =
-    each_of_two (IsUsedBy group thread asked) (src, not (src == dst)) (dst, false) (go (cases_eq src dst)) second
+    each_of_two (IsUsedBy group thread asked) (Buffer src, not (src == dst)) (Buffer dst, false) (go (cases_eq src dst)) second
   where
     asked : Call
     asked = call.CopyBufferSubData from to read write size
 
-    first : IsUsedBy group thread asked (src, true)
+    first : IsUsedBy group thread asked (Buffer src, true)
     first = used_first group thread asked context from true ((to, false) ∷ []) src refl current source
 
-    second : IsUsedBy group thread asked (dst, false)
+    second : IsUsedBy group thread asked (Buffer dst, false)
     second = used_second group thread asked context (from, true) to false [] dst refl current target
 
-    go : (src ≡ dst) ⊎ (src ≡ dst → ⊥) → IsUsedBy group thread asked (src, not (src == dst))
-    go (inl same) = subst (IsUsedBy group thread asked) (ap (λ b. (b, false)) (sym same) ∙ ap (λ r. (src, not r)) (sym (eq-eqb src dst same))) second
-    go (inr other) = subst (λ r. IsUsedBy group thread asked (src, not r)) (sym (ne_eqb src dst other)) first
+    go : (src ≡ dst) ⊎ (src ≡ dst → ⊥) → IsUsedBy group thread asked (Buffer src, not (src == dst))
+    go (inl same) = subst (IsUsedBy group thread asked) (ap (λ b. (Buffer b, false)) (sym same) ∙ ap (λ r. (Buffer src, not r)) (sym (eq-eqb src dst same))) second
+    go (inr other) = subst (λ r. IsUsedBy group thread asked (Buffer src, not r)) (sym (ne_eqb src dst other)) first
 
 -- Need
 

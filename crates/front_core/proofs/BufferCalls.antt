@@ -15,7 +15,7 @@ use Rattle.gl_calls.specs.declared.reply.Reply.{Reply}
 use Rattle.gl_calls.specs.declared.reply.Reply.TheVariants as reply
 use Rattle.gl_calls.specs.declared.words.BufferTarget.{BufferTarget}
 use Rattle.tables.specs.Table.{entry}
-use Rattle.buffer_helper.specs.Buffers.{BufferStore}
+use Rattle.object_helper.specs.Objects.{ObjectStore}
 use Rattle.gl_model.specs.declared.objects.BufferFacts.{BufferFacts}
 use Rattle.gl_model.specs.declared.objects.Mapped.{Mapped}
 use Rattle.gl_model.specs.declared.state.Context.{Context}
@@ -29,12 +29,14 @@ use Rattle.gl_model.specs.Refusal.{refusal, gl_refusal}
 use Rattle.gl_calls.specs.Egl.{is_egl_call}
 use Rattle.back_core.specs.Own.{Own, HostRead}
 use Rattle.back_core.specs.Link.{Link}
-use Rattle.front_model.specs.Face.{Object, Buffer, Face, Outline, outline, outline_at, put_object, view}
+use Rattle.front_model.specs.declared.object.Object.{Object}
+use Rattle.front_model.specs.declared.object.Object.TheVariants.{Buffer}
+use Rattle.front_model.specs.Face.{Face, Outline, outline, outline_at, put_object, view}
 use Rattle.front_model.specs.Stands.{Moved, IsQuiet, Holds, no_hands}
 use Rattle.front_model.specs.Wanted.{buffer_kind, wanted, AgreeWith, IsMapped, IsAccepted, IsBound, HasBound, HasMapRange, with_bytes}
-use Rattle.front_moves.proofs.BufferLaws.{put_object-same_value}
-use Rattle.front_moves.specs.Buffers.{stored_of}
-use Rattle.front_moves.specs.Core.{CoreParts, face, HasStore, outline_of_size}
+use Rattle.front_moves.proofs.StoreLaws.{put_object-same_value}
+use Rattle.front_moves.specs.Objects.{key_of, stored_of}
+use Rattle.front_moves.specs.Core.{CoreParts, face, HasBytes, outline_of_size}
 use Rattle.front_core.specs.Share.{MayCall, IsStateOf, IsCarriedOut, Gains}
 
 -- the context that is current where a call of OpenGL ES was accepted
@@ -62,17 +64,17 @@ bound_of state group context target b facts same bound = record { bound = bound.
 
 pub store_is : (c : CoreParts) (s : Link) (group : GroupState) (thread b : ℕ) (asked : Call) (facts : BufferFacts) → MayCall (face c) s group thread asked → entry b group.buffers ≡ Some facts →
     outline_at (face c) (Buffer b) ≡ outline_of_size facts.size
-store_is c s group thread b asked facts may is = from_kind (entry b c.buffers) (buffer_kind facts.size) (may.backs.kinds (Buffer b) ∙ wanted_kind (entry b group.buffers) is)
+store_is c s group thread b asked facts may is = from_kind (entry (key_of (Buffer b)) c.stores) (buffer_kind facts.size) (may.backs.kinds (Buffer b) ∙ wanted_kind (entry b group.buffers) is)
   where
     wanted_kind : (o : Option BufferFacts) → o ≡ Some facts → option_and_then (λ (f : BufferFacts). buffer_kind f.size) o ≡ buffer_kind facts.size
     wanted_kind o e = ap (λ x. option_and_then (λ (f : BufferFacts). buffer_kind f.size) x) e
 
-    from_kind : (o : Option BufferStore) (k : Option Kind) → option_map (λ (v : Outline). v.kind) (option_map outline (option_map stored_of o)) ≡ k →
+    from_kind : (o : Option ObjectStore) (k : Option Kind) → option_map (λ (v : Outline). v.kind) (option_map outline (option_map stored_of o)) ≡ k →
         option_map outline (option_map stored_of o) ≡ option_map (λ x. record { kind = x; waiting = [] }) k
     from_kind None k e = ap (option_map (λ x. record { kind = x; waiting = [] })) e
     from_kind (Some x) k e = ap (option_map (λ x. record { kind = x; waiting = [] })) e
 
-pub has_store : (c : CoreParts) (b size : ℕ) → 0 < size → outline_at (face c) (Buffer b) ≡ outline_of_size size → HasStore (face c) b size
+pub has_store : (c : CoreParts) (b size : ℕ) → 0 < size → outline_at (face c) (Buffer b) ≡ outline_of_size size → HasBytes (face c) b size
 has_store c b size some is =
     let e : (size == 0) ≡ false = grind (arith, some) in
     is ∙ (rw e refl)
@@ -138,7 +140,7 @@ in_map c s group thread asked target at len b place may has finds =
       fits = found.5;
     }
 
-pub has_reach : (c : CoreParts) (s : Link) (b start len : ℕ) → 0 < len → Reach c s b start len → (size : ℕ) × HasStore (face c) b size × (start + len ≤ size)
+pub has_reach : (c : CoreParts) (s : Link) (b start len : ℕ) → 0 < len → Reach c s b start len → (size : ℕ) × HasBytes (face c) b size × (start + len ≤ size)
 has_reach c s b start len some reach = (reach.size, has_store c b reach.size (omega (arith, some, reach.inside)) reach.store, reach.inside)
 
 -- Facts of one call

@@ -27,11 +27,13 @@ use Rattle.gl_model.specs.Effect.{effect}
 use Rattle.gl_model.proofs.TableLaws.{is_at-nat_cmp}
 use Rattle.back_core.specs.Link.{Link}
 use Rattle.back_core.specs.Needs.{IsOfGroup}
-use Rattle.front_model.specs.Face.{Object, Buffer, Texture, Renderbuffer, Face, Outline, outline_at, put_object, view}
+use Rattle.front_model.specs.declared.object.Object.{Object}
+use Rattle.front_model.specs.declared.object.Object.TheVariants.{Buffer, Texture, Renderbuffer}
+use Rattle.front_model.specs.Face.{Face, Outline, outline_at, put_object, view}
 use Rattle.front_model.specs.Stands.{Moved, IsQuiet, Holds, no_hands}
 use Rattle.front_model.specs.Wanted.{buffer_kind, kind_wanted, wanted, AgreeWith, IsMapped, IsAccepted, IsBound, HasBound, with_copy}
 use Rattle.front_model.proofs.KindsStores.{changed_group, changed_entry}
-use Rattle.front_moves.proofs.BufferLaws.{put_object-same_value}
+use Rattle.front_moves.proofs.StoreLaws.{put_object-same_value}
 use Rattle.front_moves.specs.Core.{CoreParts, face, IsQuietBut}
 use Rattle.front_core.specs.Copies.{MayCopy}
 use Rattle.front_core.specs.Share.{MayCall, IsCarriedOut, HaveIndexes, current_index}
@@ -159,13 +161,13 @@ not_mapped group b w facts mapped is none same =
 
 -- each mapped buffer stays quiet
 pub quiet_still : (f : Face) (s : Link) (group : GroupState) (thread : ℕ) (asked : Call) (context : Context) (from to : BufferTarget) (r w read write size : ℕ) → MayCall f s group thread asked →
-    Copies group context from to r w read write size → (b : ℕ) → IsMapped group b → IsQuietBut f s w (Buffer b) × (Buffer b ≢ Buffer r)
+    Copies group context from to r w read write size → (b : ℕ) → IsMapped group b → IsQuietBut f s (Buffer w) (Buffer b) × (Buffer b ≢ Buffer r)
 quiet_still f s group thread asked context from to r w read write size may copies b mapped =
     ((may.backs.maps b mapped, not_mapped group b w copies.target mapped copies.to_is.is copies.target_free), not_mapped group b r copies.source mapped copies.from_is.is copies.source_free)
 
 -- a range of one buffer was copied to a range of another
 abbrev pub Copied : Face → Face → Link → Link → ℕ → ℕ → ℕ → ℕ → ℕ → Type 0
-Copied f g s t r read w write size = Moved g t (put_object (view f s) (Buffer w) (with_copy (view f s (Buffer w)) write size (view f s (Buffer r)) read)) (outline_at f) (λ o. IsQuietBut f s w o × (o ≢ Buffer r))
+Copied f g s t r read w write size = Moved g t (put_object (view f s) (Buffer w) (with_copy (view f s (Buffer w)) write size (view f s (Buffer r)) read)) (outline_at f) (λ o. IsQuietBut f s (Buffer w) o × (o ≢ Buffer r))
 
 pub copied_as : (f g : Face) (s t : Link) (r w read read' write write' size size' : ℕ) → read ≡ read' → write ≡ write' → size ≡ size' → Copied f g s t r read w write size → Copied f g s t r read' w write' size'
 copied_as f g s t r w read read' write write' size size' reads writes sizes copied =

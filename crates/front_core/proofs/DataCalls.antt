@@ -20,12 +20,14 @@ use Rattle.gl_model.specs.GroupModel.{GroupModel}
 use Rattle.gl_model.specs.Sizes.{HasSizes, HasItsData}
 use Rattle.gl_model.specs.Effect.{store_of}
 use Rattle.back_core.specs.Link.{Link}
-use Rattle.front_model.specs.Face.{Object, Buffer, Face, Outline, outline_at, put_object, view}
+use Rattle.front_model.specs.declared.object.Object.{Object}
+use Rattle.front_model.specs.declared.object.Object.TheVariants.{Buffer}
+use Rattle.front_model.specs.Face.{Face, Outline, outline_at, put_object, view}
 use Rattle.front_model.specs.Stands.{Moved, IsQuiet, Holds, no_hands}
 use Rattle.front_model.specs.Wanted.{buffer_kind, wanted, AgreeWith, IsMapped, with_bytes}
 use Rattle.front_model.proofs.Base.{cases_object, put_object-same, put_object-other}
 use Rattle.front_model.proofs.AgreeingCells.{cell_at-past, cell_at-cells, length-cells}
-use Rattle.front_moves.proofs.BufferLaws.{put_object-same_value}
+use Rattle.front_moves.proofs.StoreLaws.{put_object-same_value}
 use Rattle.front_moves.specs.Core.{IsQuietBut, outline_of_size, new_cells}
 use Rattle.front_core.specs.Share.{MayCall}
 use Rattle.front_core.specs.Filled.{IsFilled}
@@ -48,7 +50,7 @@ filled_nothing f s b size at bytes holds none = record {
 
 -- bytes that were written in the store that is there
 pub filled_by_upload : (f g : Face) (s t : Link) (b size at : ℕ) (bytes : List ℕ) →
-    Moved g t (put_object (view f s) (Buffer b) (with_bytes (view f s (Buffer b)) at bytes)) (outline_at f) (IsQuietBut f s b) → IsFilled f g s t b size at bytes
+    Moved g t (put_object (view f s) (Buffer b) (with_bytes (view f s (Buffer b)) at bytes)) (outline_at f) (IsQuietBut f s (Buffer b)) → IsFilled f g s t b size at bytes
 filled_by_upload f g s t b size at bytes moved = record {
   moved = record { holds = moved.holds; view_is = refl; outlines_are = moved.outlines_are; still = moved.still };
   others = λ o other. ap (λ (v : Object → ℕ → ℕ). v o) moved.view_is ∙ put_object-other (view f s) (Buffer b) (with_bytes (view f s (Buffer b)) at bytes) o other;
@@ -64,7 +66,7 @@ cells_of_all old bytes p inside =
 
 -- bytes that are the whole of a new store
 pub filled_by_store : (f g : Face) (s t : Link) (b size at : ℕ) (bytes : List ℕ) → outline_at f (Buffer b) ≡ outline_of_size size → at ≡ 0 → length bytes ≡ size →
-    Moved g t (put_object (view f s) (Buffer b) (new_cells (Some bytes))) (put_object (outline_at f) (Buffer b) (outline_of_size (length bytes))) (IsQuietBut f s b) →
+    Moved g t (put_object (view f s) (Buffer b) (new_cells (Some bytes))) (put_object (outline_at f) (Buffer b) (outline_of_size (length bytes))) (IsQuietBut f s (Buffer b)) →
     IsFilled f g s t b size at bytes
 filled_by_store f g s t b size at bytes store first all moved = record {
   moved = record {
@@ -86,7 +88,7 @@ filled_as f g s t b size at at' bytes bytes' places same filled = subst (λ n. I
 
 -- a buffer has a new store of so many bytes, with this data or with none
 abbrev pub Renewed : Face → Face → Link → Link → ℕ → ℕ → Option (List ℕ) → Type 0
-Renewed f g s t b n bytes = Moved g t (put_object (view f s) (Buffer b) (new_cells bytes)) (put_object (outline_at f) (Buffer b) (outline_of_size n)) (IsQuietBut f s b)
+Renewed f g s t b n bytes = Moved g t (put_object (view f s) (Buffer b) (new_cells bytes)) (put_object (outline_at f) (Buffer b) (outline_of_size n)) (IsQuietBut f s (Buffer b))
 
 -- the same of a size and bytes that are equal
 pub renewed_as : (f g : Face) (s t : Link) (b n m : ℕ) (bytes others : Option (List ℕ)) → bytes ≡ others → n ≡ m → Renewed f g s t b n bytes → Renewed f g s t b m others
@@ -140,7 +142,7 @@ cells_of_data n p None = no_cells n p
 cells_of_data n p (Some payload) = refl
 
 -- a buffer that stays mapped is quiet still
-pub maps_with_data : (f g : Face) (s t : Link) (b : ℕ) (before after : GroupState) → ((c : ℕ) → IsMapped before c → IsQuiet f s (Buffer c)) → ((o : Object) → IsQuietBut f s b o → IsQuiet g t o) →
+pub maps_with_data : (f g : Face) (s t : Link) (b : ℕ) (before after : GroupState) → ((c : ℕ) → IsMapped before c → IsQuiet f s (Buffer c)) → ((o : Object) → IsQuietBut f s (Buffer b) o → IsQuiet g t o) →
     ((c : ℕ) → IsMapped after c → IsMapped before c × (c ≢ b)) → (c : ℕ) → IsMapped after c → IsQuiet g t (Buffer c)
 maps_with_data f g s t b before after quiet still unmapped c mapped =
     let was = unmapped c mapped in

@@ -6,7 +6,9 @@ use Rattle.gl_model.specs.declared.objects.BufferFacts.{BufferFacts}
 use Rattle.gl_model.specs.GroupState.{opening_group}
 use Rattle.gl_model.specs.GroupModel.{opening}
 use Rattle.back_core.specs.Link.{Link, IsNew}
-use Rattle.front_model.specs.Face.{Object, Buffer, Texture, Renderbuffer, Stored, Face, outline}
+use Rattle.front_model.specs.declared.object.Object.{Object}
+use Rattle.front_model.specs.declared.object.Object.TheVariants.{Buffer, Texture, Renderbuffer}
+use Rattle.front_model.specs.Face.{Stored, Face, outline}
 use Rattle.front_model.specs.Stands.{InHand, Holds, Owns, BarriersAreLicensed, no_hands}
 use Rattle.front_model.specs.Wanted.{kind_wanted, wanted, IsMapped, Stands}
 use Rattle.front_core.specs.Share.{HaveIndexes}

@@ -29,7 +29,9 @@ use Rattle.vk_types.specs.declared.batches.QueueSerial.{QueueSerial}
 use Rattle.back_core.specs.Answers.{IsNow, AskedRises}
 use Rattle.back_core.specs.Needs.{IsOfGroup}
 use Rattle.back_core.specs.Link.{Asked, Link}
-use Rattle.front_model.specs.Face.{Object, Buffer, Face, Outline}
+use Rattle.front_model.specs.declared.object.Object.{Object}
+use Rattle.front_model.specs.declared.object.Object.TheVariants.{Buffer}
+use Rattle.front_model.specs.Face.{Face, Outline}
 use Rattle.front_model.specs.Wanted.{wanted, AgreeWith}
 use Rattle.front_model.specs.Calls.{makes_storage}
 use Rattle.sync_serials.specs.declared.serials.SyncName.{SyncName}

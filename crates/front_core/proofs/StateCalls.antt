@@ -1,8 +1,7 @@
--- Calls that write no cells keep what the front has, but for the buffers that stop existing.
-use Rattle.std.proofs.Common.{◌≡◌, ◌≢◌, ℕ, ℤ, ◌==◌, Bool, true, false, cond, Option, Some, None, List, [], refl, sym, ◌∙◌, ap, is_some, if◌then◌else◌}
+-- Calls that write no cells keep what the front has, but for the objects that stop existing.
+use Rattle.std.proofs.Common.{◌≡◌, ◌≢◌, ℕ, ℤ, ◌==◌, Bool, true, false, cond, Option, Some, None, List, [], ◌∷◌, length, arith, refl, sym, ◌∙◌, ap, is_some, if◌then◌else◌}
 use Rattle.std.specs.Prelude.{unsigned_abs}
 use Rattle.std.specs.Option.{option_map, option_map_or, option_and_then}
-use Rattle.std.specs.List.{list_any}
 use Rattle.std.proofs.lemmas.Bool.{false≢true}
 use Rattle.cells.specs.Contents.{UNDEFINED, cell_at}
 use Rattle.vk_types.specs.declared.handles.Kind.{Kind}
@@ -21,20 +20,24 @@ use Rattle.tables.specs.Table.{entry, has}
 use Rattle.gl_model.specs.declared.state.Context.{Context}
 use Rattle.gl_model.specs.declared.state.GroupState.{GroupState}
 use Rattle.gl_model.specs.declared.state.Attachment.{Attachment}
+use Rattle.gl_model.specs.declared.state.Attachment.TheVariants as attachment
+use Rattle.gl_model.specs.Storage.{image_bytes}
 use Rattle.gl_model.specs.Bindings.{current_context}
 use Rattle.gl_model.specs.GroupEffect.{group_effect, swept}
 use Rattle.gl_model.specs.GroupModel.{GroupModel}
 use Rattle.gl_model.specs.Effect.{effect}
-use Rattle.gl_model.specs.Reached.{changed_buffer, changed_images}
+use Rattle.gl_model.specs.Reached.{changed_buffer, changed_images, texture_of, renderbuffer_of}
 use Rattle.gl_model.specs.Refusal.{refusal, gl_refusal}
-use Rattle.gl_model.specs.Sizes.{HasSizes}
+use Rattle.gl_model.specs.Sizes.{HasSizes, HasImageSizes}
 use Rattle.back_core.specs.Link.{Link}
-use Rattle.front_model.specs.Face.{Object, Buffer, Texture, Renderbuffer, Face, Outline, outline_at, view}
+use Rattle.front_model.specs.declared.object.Object.{Object}
+use Rattle.front_model.specs.declared.object.Object.TheVariants.{Buffer, Texture, Renderbuffer}
+use Rattle.front_model.specs.Face.{Face, Outline, outline_at, view}
 use Rattle.front_model.specs.Stands.{IsQuiet}
-use Rattle.front_model.specs.Wanted.{buffer_kind, kind_wanted, wanted, AgreeWith, exists, IsMapped, IsAccepted, HasFreeNumbers}
+use Rattle.front_model.specs.Wanted.{buffer_kind, image_kind, kind_wanted, wanted, AgreeWith, exists, IsMapped, IsAccepted, HasFreeNumbers}
 use Rattle.front_model.specs.Calls.{makes_storage}
 use Rattle.front_moves.specs.Core.{CoreParts, face}
-use Rattle.front_moves.specs.Ending.{HasEnded}
+use Rattle.front_moves.specs.Ending.{is_ended, HasEnded}
 use Rattle.front_core.specs.Share.{is_of_state}
 
 pub makes_none : (asked : Call) → is_of_state asked ≡ true → makes_storage asked ≡ false
@@ -179,66 +182,68 @@ no_kind : (o : Option Outline) → kind_of o ≡ None → o ≡ None
 no_kind None none = refl
 no_kind (Some v) none = let bad : ⊥ = cc in absurd bad
 
--- a buffer that does not exist is to have no store
-no_buffer : (group : GroupState) (b : ℕ) → has b group.buffers ≡ false → kind_wanted group (Buffer b) ≡ None
-no_buffer group b absent = by_entry (λ f. buffer_kind f.size) (entry b group.buffers) absent
-  where
-    by_entry : {V : Type 0} (look : V → Option Kind) (o : Option V) → is_some o ≡ false → option_and_then look o ≡ None
-    by_entry look None none = refl
-    by_entry look (Some v) none = absurd (false≢true (sym none))
+by_entry : {V K : Type 0} (look : V → Option K) (o : Option V) → is_some o ≡ false → option_and_then look o ≡ None
+by_entry look None none = refl
+by_entry look (Some v) none = absurd (false≢true (sym none))
 
-module _ (c : CoreParts) (g : Face) (s t : Link) (group after : GroupState) (thread : ℕ) (ended : List ℕ) where
+-- an object that does not exist is to have no store
+no_object : (group : GroupState) (o : Object) → exists group o ≡ false → kind_wanted group o ≡ None
+no_object group (Buffer b) absent = by_entry (λ f. buffer_kind f.size) (entry b group.buffers) absent
+no_object group (Texture t) absent = ap (option_map image_kind) (by_entry (λ image. image) (entry t group.textures) absent)
+no_object group (Renderbuffer r) absent = ap (option_map image_kind) (by_entry (λ image. image) (entry r group.renderbuffers) absent)
+
+no_cells : (cells : List ℕ) (p : ℕ) → length cells ≡ 0 → cell_at cells p ≡ UNDEFINED
+no_cells [] p none = refl
+no_cells (c ∷ cells) p none = absurd (omega arith)
+
+none_there : {V : Type 0} (o : Option V) → is_some o ≡ false → o ≡ None
+none_there None e = refl
+none_there (Some v) e = absurd (false≢true (sym e))
+
+-- and nothing is to be seen of it
+nothing_wanted : (state : GroupModel) → HasSizes state → HasImageSizes state → (o : Object) → exists state.group o ≡ false → (p : ℕ) → wanted state o p ≡ UNDEFINED
+nothing_wanted state sizes images (Buffer b) absent p = ap (λ x. cell_at x.cells p) (sizes.gone b (none_there (entry b state.group.buffers) absent))
+nothing_wanted state sizes images (Texture t) absent p =
+    no_cells (texture_of state t) p (images.cells (attachment.Texture t) ∙ ap image_bytes (by_entry (λ image. image) (entry t state.group.textures) absent))
+nothing_wanted state sizes images (Renderbuffer r) absent p =
+    no_cells (renderbuffer_of state r) p (images.cells (attachment.Renderbuffer r) ∙ ap image_bytes (by_entry (λ image. image) (entry r state.group.renderbuffers) absent))
+
+-- the objects that exist no longer were ended
+abbrev pub AreGone : GroupState → GroupState → List Object → Type 0
+AreGone group after ended = (o : Object) → is_ended ended o ≡ cond (exists after o) false (exists group o)
+
+module _ (c : CoreParts) (g : Face) (s t : Link) (group after : GroupState) (thread : ℕ) (ended : List Object) where
   -- each store is there that the state after is to have
-  pub kinds_left : ((b : ℕ) → list_any (λ d. b == d) ended ≡ cond (has b after.buffers) false (has b group.buffers)) →
-      ((o : Object) → kind_wanted after o ≡ (if exists after o then kind_wanted group o else None)) →
+  pub kinds_left : AreGone group after ended → ((o : Object) → kind_wanted after o ≡ (if exists after o then kind_wanted group o else None)) →
       ((o : Object) → option_map (λ v. v.kind) (outline_at (face c) o) ≡ kind_wanted group o) → HasEnded (face c) g s t ended →
       (o : Object) → option_map (λ v. v.kind) (outline_at g o) ≡ kind_wanted after o
-  kinds_left ended_is kept kinds has_ended (Buffer b) =
-      ap kind_of (has_ended.outlines_are (Buffer b) ∙ ap (λ e. cond e None (outline_at (face c) (Buffer b))) (ended_is b))
-      ∙ by_left (has b after.buffers) (has b group.buffers) refl
-      ∙ sym (kept (Buffer b))
+  kinds_left ended_is kept kinds has_ended o =
+      ap kind_of (has_ended.outlines_are o ∙ ap (λ e. cond e None (outline_at (face c) o)) (ended_is o))
+      ∙ by_left (exists after o) (exists group o) refl
+      ∙ sym (kept o)
     where
-      by_left : (l w : Bool) → has b group.buffers ≡ w → kind_of (cond (cond l false w) None (outline_at (face c) (Buffer b))) ≡ (if l then kind_wanted group (Buffer b) else None)
-      by_left true w was = kinds (Buffer b)
+      by_left : (l w : Bool) → exists group o ≡ w → kind_of (cond (cond l false w) None (outline_at (face c) o)) ≡ (if l then kind_wanted group o else None)
+      by_left true w was = kinds o
       by_left false true was = refl
-      by_left false false was = kinds (Buffer b) ∙ no_buffer group b was
-  kinds_left ended_is kept kinds has_ended (Texture n) = ap kind_of (has_ended.outlines_are (Texture n)) ∙ nothing (exists after (Texture n)) ∙ sym (kept (Texture n))
-    where
-      nothing : (l : Bool) → None ≡ (if l then kind_wanted group (Texture n) else None)
-      nothing true = kinds (Texture n)
-      nothing false = refl
-  kinds_left ended_is kept kinds has_ended (Renderbuffer n) = ap kind_of (has_ended.outlines_are (Renderbuffer n)) ∙ nothing (exists after (Renderbuffer n)) ∙ sym (kept (Renderbuffer n))
-    where
-      nothing : (l : Bool) → None ≡ (if l then kind_wanted group (Renderbuffer n) else None)
-      nothing true = kinds (Renderbuffer n)
-      nothing false = refl
+      by_left false false was = kinds o ∙ no_object group o was
 
   -- a mapped buffer is quiet still
-  pub maps_left : ((b : ℕ) → list_any (λ d. b == d) ended ≡ cond (has b after.buffers) false (has b group.buffers)) →
-      ((b : ℕ) → IsMapped after b → IsMapped group b) → ((b : ℕ) → IsMapped group b → IsQuiet (face c) s (Buffer b)) → HasEnded (face c) g s t ended →
-      (b : ℕ) → IsMapped after b → IsQuiet g t (Buffer b)
+  pub maps_left : AreGone group after ended → ((b : ℕ) → IsMapped after b → IsMapped group b) → ((b : ℕ) → IsMapped group b → IsQuiet (face c) s (Buffer b)) →
+      HasEnded (face c) g s t ended → (b : ℕ) → IsMapped after b → IsQuiet g t (Buffer b)
   maps_left ended_is kept quiet has_ended b mapped =
-      has_ended.still (Buffer b) (ended_is b ∙ ap (λ l. cond l false (has b group.buffers)) (ap is_some mapped.is)) (quiet b (kept b mapped))
+      has_ended.still (Buffer b) (ended_is (Buffer b) ∙ ap (λ l. cond l false (has b group.buffers)) (ap is_some mapped.is)) (quiet b (kept b mapped))
 
   -- what is seen of the objects that are left agrees still, and nothing is to be seen of those that ended
-  pub agrees_left : (state : GroupModel) → state.group ≡ after → HasSizes state → ((b : ℕ) → list_any (λ d. b == d) ended ≡ cond (has b after.buffers) false (has b group.buffers)) →
+  pub agrees_left : (state : GroupModel) → state.group ≡ after → HasSizes state → HasImageSizes state → AreGone group after ended →
       HasEnded (face c) g s t ended → AgreeWith (view (face c) s) (wanted state) → AgreeWith (view g t) (wanted state)
-  agrees_left state is sizes ended_is has_ended agree (Buffer b) p below =
-      has_ended.view_is (Buffer b) p ∙ by_ended (list_any (λ d. b == d) ended) refl
+  agrees_left state is sizes images ended_is has_ended agree o p below = has_ended.view_is o p ∙ by_ended (is_ended ended o) refl
     where
       absent : (l w : Bool) → cond l false w ≡ true → l ≡ false
       absent true w e = absurd (false≢true e)
       absent false w e = refl
 
-      none_there : {V : Type 0} (o : Option V) → is_some o ≡ false → o ≡ None
-      none_there None e = refl
-      none_there (Some v) e = absurd (false≢true (sym e))
-
-      by_ended : (e : Bool) → list_any (λ d. b == d) ended ≡ e → cond e UNDEFINED (view (face c) s (Buffer b) p) ≡ wanted state (Buffer b) p
-      by_ended false e = agree (Buffer b) p below
+      by_ended : (e : Bool) → is_ended ended o ≡ e → cond e UNDEFINED (view (face c) s o p) ≡ wanted state o p
+      by_ended false e = agree o p below
       by_ended true e =
-          let out : has b after.buffers ≡ false = absent (has b after.buffers) (has b group.buffers) (sym (ended_is b) ∙ e) in
-          let gone : entry b state.group.buffers ≡ None = none_there (entry b state.group.buffers) (ap (λ (x : GroupState). has b x.buffers) is ∙ out) in
-          sym (ap (λ x. cell_at x.cells p) (sizes.gone b gone))
-  agrees_left state is sizes ended_is has_ended agree (Texture n) p below = has_ended.view_is (Texture n) p ∙ agree (Texture n) p below
-  agrees_left state is sizes ended_is has_ended agree (Renderbuffer n) p below = has_ended.view_is (Renderbuffer n) p ∙ agree (Renderbuffer n) p below
+          let out : exists after o ≡ false = absent (exists after o) (exists group o) (sym (ended_is o) ∙ e) in
+          sym (nothing_wanted state sizes images o (ap (λ x. exists x o) is ∙ out) p)

@@ -7,7 +7,9 @@ use Rattle.gl_calls.specs.declared.reply.Reply.{Reply}
 use Rattle.gl_model.specs.declared.state.GroupState.{GroupState}
 use Rattle.vk_types.specs.declared.ops.Node.{Node}
 use Rattle.back_core.specs.Link.{Link}
-use Rattle.front_model.specs.Face.{Object, Buffer, Face, Outline, outline_at, view}
+use Rattle.front_model.specs.declared.object.Object.{Object}
+use Rattle.front_model.specs.declared.object.Object.TheVariants.{Buffer}
+use Rattle.front_model.specs.Face.{Face, Outline, outline_at, view}
 use Rattle.front_model.specs.Stands.{Moved, IsQuiet}
 use Rattle.front_model.specs.Wanted.{wanted, AgreeWith}
 use Rattle.sync_serials.specs.Serials.{SyncTables}

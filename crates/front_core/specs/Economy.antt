@@ -1,6 +1,6 @@
 -- What a call may do at the back: how many bytes the host writes, whether it may wait, and which batches it may hand over.
 use Rattle.std.specs.Prelude.{◌≡◌, ◌≢◌, ℕ, ◌+◌, ◌≤◌, ◌==◌, ◌⊎◌, Bool, true, false, not, unsigned_abs, List, [], ◌∷◌, Option, Some, None, Contains}
-use Rattle.std.specs.Option.{option_map_or}
+use Rattle.std.specs.Option.{option_map, option_map_or}
 use Rattle.formats.specs.Texel.{bytes_per_texel}
 use Rattle.formats.specs.Rows.{needed_length}
 use Rattle.gl_calls.specs.declared.call.Call.{Call}
@@ -21,6 +21,8 @@ use Rattle.gl_model.specs.GroupState.{opening_group}
 use Rattle.gl_model.specs.Bindings.{current_context, buffer_binding, image_of}
 use Rattle.gl_model.specs.Reached.{group_after}
 use Rattle.gl_model.specs.Refusal.{refusal}
+use Rattle.front_model.specs.declared.object.Object.{Object}
+use Rattle.front_model.specs.declared.object.Object.TheVariants.{Buffer}
 use Rattle.front_model.specs.Face.{Face}
 use Rattle.sync_serials.specs.declared.serials.SyncName.{SyncName}
 use Rattle.sync_serials.specs.declared.serials.SyncName.TheVariants.{Gl, Egl}
@@ -69,13 +71,13 @@ used_targets (call.CopyBufferSubData from to read write size) = (from, true) ∷
 used_targets (call.MapBufferRange target offset len access) = (target, false) ∷ []
 used_targets _ = []
 
--- the call copies from or to this buffer, or maps it; where it is said to read alone, it copies from it
-pub record IsUsedBy (group : GroupState) (thread : ℕ) (asked : Call) (used : ℕ × Bool) : Type 0 where
+-- the call copies from or to this object, or maps it; where it is said to read alone, it copies from it
+pub record IsUsedBy (group : GroupState) (thread : ℕ) (asked : Call) (used : Object × Bool) : Type 0 where
   pub context : Context
   pub target : BufferTarget
   pub current : current_context group thread ≡ Some context
   pub listed : Contains (used_targets asked) (target, used.1)
-  pub bound : buffer_binding context target ≡ Some used.0
+  pub bound : option_map Buffer (buffer_binding context target) ≡ Some used.0
 
 abbrev pub maps_a_buffer : Call → Bool
 maps_a_buffer (call.MapBufferRange target offset len access) = true
@@ -102,8 +104,8 @@ pub data IsTrueReason (f : Face) (group : GroupState) (serials : Entries ℕ) (t
   switch : replaced_by group serials thread asked ≡ Some batch.index → batch.reason ≡ reason.Switch → IsTrueReason f group serials thread asked batch
   read : maps_a_buffer asked ≡ true → current_index group serials thread ≡ Some batch.index → batch.reason ≡ reason.Read →
       batch.nodes ≢ [] → IsTrueReason f group serials thread asked batch
-  cross : (index b : ℕ) (reads : Bool) → current_index group serials thread ≡ Some index → IsUsedBy group thread asked (b, reads) →
-      IsCross f index b reads batch → IsTrueReason f group serials thread asked batch
+  cross : (index : ℕ) (o : Object) (reads : Bool) → current_index group serials thread ≡ Some index → IsUsedBy group thread asked (o, reads) →
+      IsCross f index o reads batch → IsTrueReason f group serials thread asked batch
   full : IsFull batch → IsTrueReason f group serials thread asked batch
 
 -- the context that is current on a thread hands over for a reason

@@ -5,3 +5,4 @@ pub mod Front
 pub mod Share
 pub mod Economy
 pub mod Polls
+pub mod Gone

@@ -16,11 +16,13 @@ use Rattle.gl_model.specs.GroupModel.{GroupModel}
 use Rattle.gl_model.specs.Effect.{effect}
 use Rattle.gl_model.specs.Legal.{Answers}
 use Rattle.gl_model.specs.Refusal.{refusal}
-use Rattle.gl_model.specs.Sizes.{HasSizes, HasItsData}
+use Rattle.gl_model.specs.Sizes.{HasSizes, HasImageSizes, HasItsData}
 use Rattle.back_core.specs.Own.{Own, HostRead}
 use Rattle.back_core.specs.Link.{Link}
 use Rattle.back_core.specs.Needs.{IsOfGroup}
-use Rattle.front_model.specs.Face.{Object, Buffer, Face, outline_at, view}
+use Rattle.front_model.specs.declared.object.Object.{Object}
+use Rattle.front_model.specs.declared.object.Object.TheVariants.{Buffer}
+use Rattle.front_model.specs.Face.{Face, outline_at, view}
 use Rattle.front_model.specs.Stands.{Holds, Moved, no_hands, IsQuiet}
 use Rattle.front_model.specs.Wanted.{kind_wanted, wanted, AgreeWith, IsMapped, HasFreeNumbers}
 
@@ -38,6 +40,7 @@ Stays f g s t = Moved g t (view f s) (outline_at f) (IsQuiet f s)
 pub record IsStateOf (state : GroupModel) (group : GroupState) : Type 0 where
   pub group_is : state.group ≡ group
   pub sizes : HasSizes state
+  pub images : HasImageSizes state
   pub free : HasFreeNumbers group
   pub referred : swept group ≡ group
 

@@ -11,10 +11,11 @@ ghost use Rattle.gl_model.specs.Bindings.{current_context};
 ghost use Rattle.gl_model.specs.GroupEffect.{group_effect};
 ghost use Rattle.back_core.specs.Link.{Link};
 ghost use Rattle.back_core.specs.Needs.{IsOfGroup};
-ghost use Rattle.front_model.specs.Face.{Face, Buffer, put_object, outline_at, view};
+ghost use Rattle.front_model.specs.declared.object.Object.TheVariants.{Buffer};
+ghost use Rattle.front_model.specs.Face.{Face, put_object, outline_at, view};
 ghost use Rattle.front_model.specs.Stands.{Holds, Owns, Moved, IsQuiet, no_hands};
 ghost use Rattle.front_model.specs.Wanted.{HasBound, with_copy};
-ghost use Rattle.front_moves.specs.Core.{CoreParts, face, HasStore, IsQuietBut};
+ghost use Rattle.front_moves.specs.Core.{CoreParts, face, HasBytes, IsQuietBut};
 ghost use Rattle.front_core.specs.Copies.{IsNamed, MayCopy};
 ghost use Rattle.front_core.specs.Share.{MayCall, IsCarriedOut, HaveIndexes, current_index};
 
@@ -39,7 +40,7 @@ pub(crate) fn copy_calls_come_to()
     ensures copied { (f g : Face) (s t : Link) (group : GroupState) (thread r w : ℕ) (from to : BufferTarget) (read write size : ℤ) →
         MayCall f s group thread (call.CopyBufferSubData from to read write size) → IsNamed group thread from r → IsNamed group thread to w →
         Moved g t (put_object (view f s) (Buffer w) (with_copy (view f s (Buffer w)) (unsigned_abs write) (unsigned_abs size) (view f s (Buffer r)) (unsigned_abs read)))
-        (outline_at f) (λ o. IsQuietBut f s w o × (o ≢ Buffer r)) →
+        (outline_at f) (λ o. IsQuietBut f s (Buffer w) o × (o ≢ Buffer r)) →
         IsCarriedOut f g s t group group thread (call.CopyBufferSubData from to read write size) reply.Done }
     // a map
     ensures map_names { (f : Face) (s : Link) (group : GroupState) (thread : ℕ) (target : BufferTarget) (offset len : ℤ) (access : AccessWord) →
@@ -47,7 +48,7 @@ pub(crate) fn copy_calls_come_to()
         (context : Context) × (current_context group thread ≡ Some context) × HasBound group context target (λ b facts. Unit {0}) }
     ensures map_may { (c : CoreParts) (s : Link) (group : GroupState) (thread b : ℕ) (target : BufferTarget) (offset len : ℤ) (access : AccessWord) →
         MayCall (face c) s group thread (call.MapBufferRange target offset len access) → IsNamed group thread target b →
-        (size : ℕ) × HasStore (face c) b size }
+        (size : ℕ) × HasBytes (face c) b size }
     ensures mapped { (f g : Face) (s t : Link) (group : GroupState) (thread b : ℕ) (target : BufferTarget) (offset len : ℤ) (access : AccessWord) →
         MayCall f s group thread (call.MapBufferRange target offset len access) → IsNamed group thread target b →
         Moved g t (view f s) (outline_at f) (IsQuiet f s) → IsQuiet g t (Buffer b) →

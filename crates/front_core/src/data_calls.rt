@@ -4,7 +4,8 @@ ghost use Rattle.std.specs.Option.{option_map};
 ghost use Rattle.gl_calls.specs.Words.{payload_len, payload_bytes};
 ghost use Rattle.vk_device.specs.Faults.{HasCause};
 ghost use Rattle.back_core.specs.Needs.{IsOfGroup};
-ghost use Rattle.front_model.specs.Face.{Buffer, put_object, outline_at, view};
+ghost use Rattle.front_model.specs.declared.object.Object.TheVariants.{Buffer};
+ghost use Rattle.front_model.specs.Face.{put_object, outline_at, view};
 ghost use Rattle.front_model.specs.Stands.{Holds, Owns, Moved, no_hands};
 ghost use Rattle.front_moves.specs.Core.{face, IsQuietBut, outline_of_size, new_cells};
 ghost use Rattle.front_core.specs.Share.{MayCall, IsCarriedOut, HaveIndexes};
@@ -64,7 +65,7 @@ impl Share {
         ensures moved { OnOk result (Moved (face self.new.core) (L.state link.new)
             (put_object (view (face self.old.core) (L.state link.old)) (Buffer buffer) (new_cells (option_map payload_bytes payload.now)))
             (put_object (outline_at (face self.old.core)) (Buffer buffer) (outline_of_size size))
-            (IsQuietBut (face self.old.core) (L.state link.old) buffer)) }
+            (IsQuietBut (face self.old.core) (L.state link.old) (Buffer buffer))) }
         ensures state { self.new.state ≡ self.old.state }
         ensures serials { self.new.serials ≡ self.old.serials }
         ensures group { (face self.new.core).group ≡ (face self.old.core).group }
@@ -138,7 +139,7 @@ impl Share {
         ensures group { (face self.new.core).group ≡ (face self.old.core).group }
         ensures err { OnErr result (Owns (face self.new.core).objects (L.state link.new)) }
         ensures cause { HasCause (L.faults link.old) (L.faults link.new) result }
-        ensures at_back { ActsAtBack L.state L.told link.old link.new (length bytes.now) false (is_err result) (IsParting (face self.old.core) index ((buffer, false) ∷ [])) }
+        ensures at_back { ActsAtBack L.state L.told link.old link.new (length bytes.now) false (is_err result) (IsParting (face self.old.core) index ((Buffer buffer, false) ∷ [])) }
     {
         buffers_are_filled();
         if bytes.is_empty() {

@@ -229,7 +229,12 @@ impl Share {
                     ended,
                     switched: _,
                 } = applied;
-                self.core.end_all(link, ended.buffers.as_slice());
+                self.core.end_all(
+                    link,
+                    ended.buffers.as_slice(),
+                    ended.textures.as_slice(),
+                    ended.renderbuffers.as_slice(),
+                );
                 Ok(())
             }
             Err(_) => Err(Stop::Memory),

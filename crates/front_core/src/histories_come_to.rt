@@ -17,7 +17,9 @@ ghost use Rattle.front_core.specs.Share.{HaveIndexes};
 ghost use Rattle.front_core.specs.Front.{FrontModel, FrontStands, IsNewFront, MayAnswer, IsAnswered, entry_of};
 
 use front_model::{numbers_not_given_are_free, steps_may};
-use gl_model::{buffers_have_their_sizes, group_is_a_projection, legal_histories_go_on};
+use gl_model::{
+    buffers_have_their_sizes, group_is_a_projection, images_have_their_sizes, legal_histories_go_on,
+};
 use sync_serials::syncs_stand_on;
 
 /// A new front stands, a front that stands may answer a call of its threads, and one that has answered it stands.
@@ -36,6 +38,7 @@ pub(crate) fn histories_come_to()
     legal_histories_go_on();
     group_is_a_projection();
     buffers_have_their_sizes();
+    images_have_their_sizes();
     numbers_not_given_are_free();
     steps_may();
     syncs_stand_on();

@@ -14,7 +14,7 @@ use gl_state::{Applied, apply};
 use vk_types::Stop;
 
 impl Share {
-    /// Carries out a call that writes no cells: the state changes, and the buffers that stopped existing are ended.
+    /// Carries out a call that writes no cells: the state changes, and the objects that stopped existing are ended.
     pub(crate) fn state_call<L: BackLink>(
         &mut self,
         link: &mut L,
@@ -39,7 +39,12 @@ impl Share {
                     ended,
                     switched: _,
                 } = applied;
-                self.core.end_all(link, ended.buffers.as_slice());
+                self.core.end_all(
+                    link,
+                    ended.buffers.as_slice(),
+                    ended.textures.as_slice(),
+                    ended.renderbuffers.as_slice(),
+                );
                 match reply {
                     Some(reply) => Ok(reply),
                     None => unreachable!(),

@@ -10,9 +10,9 @@ ghost use Rattle.gl_model.specs.declared.state.GroupState.{GroupState};
 ghost use Rattle.gl_model.specs.GroupEffect.{group_effect};
 ghost use Rattle.gl_model.specs.Refusal.{refusal};
 ghost use Rattle.gl_model.specs.Syncs.{changes_syncs};
-ghost use Rattle.gl_state.specs.Ended.{gone};
 ghost use Rattle.back_core.specs.Link.{Link};
 ghost use Rattle.back_core.specs.Needs.{IsOfGroup};
+ghost use Rattle.front_model.specs.declared.object.Object.{Object};
 ghost use Rattle.front_model.specs.Face.{Face};
 ghost use Rattle.front_model.specs.Stands.{Holds, Owns, no_hands};
 ghost use Rattle.front_moves.specs.Core.{CoreParts, face};
@@ -21,12 +21,13 @@ ghost use Rattle.sync_serials.specs.declared.serials.SyncName.{SyncName};
 ghost use Rattle.sync_serials.specs.declared.serials.SyncName.TheVariants.{Gl, Egl};
 ghost use Rattle.sync_serials.specs.Serials.{SyncTables, HasGoneOn, serial_at, newest_of, with_sync, without_sync, makes, ends, asks, is_wait, leaves_contexts};
 ghost use Rattle.front_core.specs.Answering.{IsWaitSync};
+ghost use Rattle.front_core.specs.Gone.{objects_gone};
 ghost use Rattle.front_core.specs.Share.{MayCall, Stays, IsCarriedOut, IsChanged, current_index};
 ghost use Rattle.front_core.specs.Front.{MayServe, IsServed};
 ghost use Rattle.front_core.specs.Polls.{IsMade, IsPoll, answer_by, timeout_of};
 
 use front_model::{calls_keep_agreement, calls_keep_stores, steps_may};
-use gl_model::{buffers_have_their_sizes, group_is_a_projection};
+use gl_model::{buffers_have_their_sizes, group_is_a_projection, images_have_their_sizes};
 use sync_serials::{
     syncs_are_made_and_ended, syncs_are_signalled, syncs_of_contexts_stand, syncs_stand_on,
     waits_may_answer,
@@ -79,8 +80,8 @@ pub(crate) fn syncs_come_to()
 
 /// A wait for a sync changes errors alone, and was served whatever the number that its index had completed.
 pub(crate) fn waits_come_to()
-    ensures changed { (c : CoreParts) (g : Face) (s t : Link) (group : GroupState) (thread : ℕ) (asked : Call) (ended : List ℕ) →
-        is_wait asked ≡ true → MayCall (face c) s group thread asked → ended ≡ gone group.buffers (group_effect group thread asked).buffers →
+    ensures changed { (c : CoreParts) (g : Face) (s t : Link) (group : GroupState) (thread : ℕ) (asked : Call) (ended : List Object) →
+        is_wait asked ≡ true → MayCall (face c) s group thread asked → ended ≡ objects_gone group (group_effect group thread asked) →
         HasEnded (face c) g s t ended → IsChanged (face c) g s t group (group_effect group thread asked) thread asked }
     ensures contexts { (group : GroupState) (thread : ℕ) (asked : Call) → is_wait asked ≡ true → (group_effect group thread asked).contexts ≡ group.contexts }
     ensures served { (f h g : Face) (s u t : Link) (group after : GroupState) (serials : Entries ℕ) (tables : SyncTables) (thread : ℕ) (asked : Call) (x : SyncName) (signalled : Bool) →
@@ -93,6 +94,7 @@ pub(crate) fn waits_come_to()
     calls_keep_agreement();
     calls_keep_stores();
     buffers_have_their_sizes();
+    images_have_their_sizes();
     group_is_a_projection();
     syncs_stand_on();
     syncs_are_signalled();

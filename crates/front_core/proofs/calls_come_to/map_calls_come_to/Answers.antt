@@ -6,7 +6,8 @@ use Rattle.gl_calls.specs.declared.reply.Reply.TheVariants as reply
 use Rattle.gl_calls.specs.Words.{payload_len, payload_bytes}
 use Rattle.gl_model.specs.Bindings.{current_context}
 use Rattle.gl_model.specs.Effect.{effect}
-use Rattle.front_model.specs.Face.{Buffer, put_object, view}
+use Rattle.front_model.specs.declared.object.Object.TheVariants.{Buffer}
+use Rattle.front_model.specs.Face.{put_object, view}
 use Rattle.front_model.specs.Stands.{no_hands, IsQuiet}
 use Rattle.front_model.specs.Wanted.{wanted, AgreeWith, HasMapRange, with_bytes}
 use Rattle.front_core.proofs.BufferCalls.{context_of, accepted_of, bound_of, bound_back, carried_still, nothing_changes, done_answers}

@@ -2,7 +2,8 @@ use Rattle.std.proofs.Common.{arith, ◌≢◌, refl}
 use Rattle.std.specs.Prelude.{unsigned_abs}
 use Rattle.gl_calls.specs.declared.call.Call.TheVariants as call
 use Rattle.gl_calls.specs.declared.reply.Reply.TheVariants as reply
-use Rattle.front_model.specs.Face.{Buffer, put_object, view}
+use Rattle.front_model.specs.declared.object.Object.TheVariants.{Buffer}
+use Rattle.front_model.specs.Face.{put_object, view}
 use Rattle.front_model.specs.Stands.{no_hands}
 use Rattle.front_model.specs.Wanted.{with_copy}
 use Rattle.front_moves.specs.Core.{face, IsQuietBut}
@@ -30,7 +31,7 @@ returns r = record {
       = copies_of group range.0 from to b w (unsigned_abs read) (unsigned_abs write) (unsigned_abs size) range.2 (b_is range.0 range.1) (w_is range.0 range.1) in
       carried_still f g s t group thread asked reply.Done
       (put_object (view f s) (Buffer w) (with_copy (view f s (Buffer w)) (unsigned_abs write) (unsigned_abs size) (view f s (Buffer b)) (unsigned_abs read)))
-      (λ o. IsQuietBut f s w o × (o ≢ Buffer b)) may moved
+      (λ o. IsQuietBut f s (Buffer w) o × (o ≢ Buffer b)) may moved
       (quiet_still f s group thread asked range.0 from to b w (unsigned_abs read) (unsigned_abs write) (unsigned_abs size) may copies)
       (nothing_changes group thread asked refl (λ n x. refl))
       (λ state at is agree. r.calls_keep_agreement.ensures.copy state thread at b w range.0 copies.source copies.target from to read write size (view f s)

@@ -8,7 +8,9 @@ use Rattle.tables.specs.Table.{entry}
 use Rattle.gl_model.specs.declared.state.GroupState.{GroupState}
 use Rattle.gl_model.specs.GroupEffect.{group_effect, swept}
 use Rattle.gl_model.specs.Effect.{effect}
-use Rattle.front_model.specs.Face.{Object, Buffer, Outline, put_object, view}
+use Rattle.front_model.specs.declared.object.Object.{Object}
+use Rattle.front_model.specs.declared.object.Object.TheVariants.{Buffer}
+use Rattle.front_model.specs.Face.{Outline, put_object, view}
 use Rattle.front_model.specs.Stands.{no_hands}
 use Rattle.front_model.specs.Wanted.{buffer_kind, kind_wanted, wanted, IsMapped, HasBound}
 use Rattle.front_moves.specs.Core.{IsQuietBut}
@@ -72,7 +74,7 @@ returns r = record {
       (r.accepted_calls_are_in_range.ensures.sub may.model thread known.0 target offset payload (accepted_of f s group thread asked known.0 may known.1 may.model may.is)) in
       let none : facts.map ≡ None = (bound_has group known.0 target b facts (λ b facts. (facts.map ≡ None) × (unsigned_abs offset + payload_len payload ≤ facts.size)) has bound).0 in
       let same : group_effect group thread asked ≡ swept group = nothing_changes group thread asked refl (λ n x. refl) in
-      carried_still f g s t group thread asked reply.Done (view g t) (IsQuietBut f s b) may filled.moved
+      carried_still f g s t group thread asked reply.Done (view g t) (IsQuietBut f s (Buffer b)) may filled.moved
       (λ c mapped. (may.backs.maps c mapped, unmapped_is_other group b c facts bound.is none mapped))
       same
       (λ state place is agree.

@@ -42,6 +42,7 @@ returns-clause-answered c f s t core after serials syncs thread line asked answe
     let is_state : IsStateOf state f.state = record {
       group_is = stands.group_is;
       sizes = c.buffers_have_their_sizes.ensures.reached f.threads f.history stands.its_data;
+      images = c.images_have_their_sizes.ensures.reached f.threads f.history;
       free = subst HasFreeNumbers stands.group_is (c.numbers_not_given_are_free.ensures.reached f.threads f.history);
       referred = referred;
     } in
@@ -86,6 +87,7 @@ returns-clause-may c f s thread asked stands declared its_data referred = record
   is = record {
     group_is = stands.group_is;
     sizes = c.buffers_have_their_sizes.ensures.reached f.threads f.history stands.its_data;
+    images = c.images_have_their_sizes.ensures.reached f.threads f.history;
     free = subst HasFreeNumbers stands.group_is (c.numbers_not_given_are_free.ensures.reached f.threads f.history);
     referred = referred;
   };

@@ -1,6 +1,6 @@
 use Rattle.std.proofs.Common.{sym, subst, refl, arith, length}
 use Rattle.gl_model.specs.Reached.{reached}
-use Rattle.front_model.specs.Face.{Buffer}
+use Rattle.front_model.specs.declared.object.Object.TheVariants.{Buffer}
 use Rattle.front_model.specs.Stands.{no_hands}
 use Rattle.front_model.specs.Wanted.{wanted, AgreeWith}
 use Rattle.front_moves.specs.Core.{face}

@@ -1,16 +1,15 @@
-use Rattle.std.proofs.Common.{◌≡◌, ℕ, ◌==◌, false, cond, None, Some, sym, ◌∙◌, ap, subst, refl, if◌then◌else◌}
-use Rattle.std.specs.List.{list_any}
+use Rattle.std.proofs.Common.{◌≡◌, ℕ, None, Some, sym, ◌∙◌, ap, subst, refl, if◌then◌else◌}
 use Rattle.gl_calls.specs.declared.call.Call.{Call}
 use Rattle.gl_calls.specs.declared.call.Call.TheVariants as call
 use Rattle.gl_calls.specs.declared.reply.Reply.TheVariants as reply
-use Rattle.tables.specs.Table.{has}
 use Rattle.gl_model.specs.declared.state.GroupState.{GroupState}
 use Rattle.gl_model.specs.GroupModel.{GroupModel}
 use Rattle.gl_model.specs.GroupEffect.{group_effect}
 use Rattle.gl_model.specs.Effect.{effect}
 use Rattle.gl_model.specs.Legal.{Answers}
 use Rattle.gl_model.specs.Refusal.{refusal}
-use Rattle.front_model.specs.Face.{Object, view}
+use Rattle.front_model.specs.declared.object.Object.{Object}
+use Rattle.front_model.specs.Face.{view}
 use Rattle.front_model.specs.Stands.{no_hands}
 use Rattle.front_model.specs.Wanted.{kind_wanted, exists, IsMapped, HasFreeNumbers}
 use Rattle.front_moves.specs.Core.{face}
@@ -19,8 +18,9 @@ use Rattle.front_core.specs.Share.{IsChanged}
 use Rattle.front_core.specs.Front.{entry_of}
 use Rattle.front_core.specs.Polls.{IsPoll, answer_by, timeout_of}
 use Rattle.front_core.proofs.AnsweredCalls.{refusal_of}
-use Rattle.front_core.proofs.GoneBuffers.{gone_is}
-use Rattle.front_core.proofs.StateCalls.{kinds_left, maps_left, agrees_left}
+use Rattle.front_moves.specs.Ending.{is_ended}
+use Rattle.front_core.proofs.GoneBuffers.{objects_gone_are}
+use Rattle.front_core.proofs.StateCalls.{AreGone, kinds_left, maps_left, agrees_left}
 use Rattle.front_core.proofs.Serving.{wait_makes_none, wait_maps_none, wait_agrees, wait_contexts, changed_on, says_retired}
 use Rattle.front_core.proofs.syncs_come_to.waits_come_to.Goals as goal
 
@@ -28,8 +28,7 @@ pub returns-clause-changed : goal.returns-clause-changed
 returns-clause-changed r c g s t group thread asked ended which may is has_ended =
     let after : GroupState = group_effect group thread asked in
     let same : may.model.group ≡ group = may.is.group_is in
-    let ended_is : (b : ℕ) → list_any (λ d. b == d) ended ≡ cond (has b after.buffers) false (has b group.buffers)
-    = λ b. ap (list_any (λ d. b == d)) is ∙ gone_is group.buffers after.buffers b in
+    let ended_is : AreGone group after ended = λ o. ap (λ l. is_ended l o) is ∙ objects_gone_are group after o in
     let kinds : (o : Object) → kind_wanted after o ≡ (if exists after o then kind_wanted group o else None)
     = subst (λ (x : GroupState). (o : Object) → kind_wanted (group_effect x thread asked) o ≡ (if exists (group_effect x thread asked) o then kind_wanted x o else None)) same
     (r.calls_keep_stores.ensures.others may.model thread asked may.is.sizes (subst HasFreeNumbers (sym same) may.is.free) (wait_makes_none asked which)) in
@@ -47,7 +46,8 @@ returns-clause-changed r c g s t group thread asked ended which may is has_ended
           let accepted : refusal state.group thread asked ≡ None = ap (λ (x : GroupState). refusal x thread asked) is_state.group_is ∙ may.accepted in
           let projected : (effect state thread asked place).group ≡ after = r.group_is_a_projection.ensures.effect state thread asked place ∙ ap (λ (x : GroupState). group_effect x thread asked) is_state.group_is in
           agrees_left c g s t group after thread ended (effect state thread asked place) projected
-          (r.buffers_have_their_sizes.ensures.effect state thread asked place is_state.sizes accepted may.its_data) ended_is has_ended
+          (r.buffers_have_their_sizes.ensures.effect state thread asked place is_state.sizes accepted may.its_data)
+          (r.images_have_their_sizes.ensures.effect state thread asked place is_state.images accepted) ended_is has_ended
           (wait_agrees r.calls_keep_agreement.ensures.others state thread place (view (face c) s) asked which agree);
     }
 

@@ -5,6 +5,7 @@ use Rattle.gl_calls.specs.declared.call.Call.TheVariants as call
 use Rattle.gl_calls.specs.declared.reply.Reply.TheVariants as reply
 use Rattle.gl_calls.specs.Words.{payload_len, payload_bytes}
 use Rattle.gl_model.specs.declared.state.GroupState.{GroupState}
+use Rattle.front_model.specs.declared.object.Object.TheVariants.{Buffer}
 use Rattle.front_moves.specs.Core.{face}
 use Rattle.front_core.specs.Share.{IsCarriedOut}
 use Rattle.front_core.proofs.BufferCalls.{bound_has, store_is, length-payload_bytes}
@@ -53,20 +54,20 @@ pub returns-in-Ok-fill-clause-at_back : goal.returns-in-Ok-fill-clause-at_back
 returns-in-Ok-fill-clause-at_back g c =
     let h = c.data_calls_come_to.ensures.may_sub (face c.args.self.now.core) (g.L.BackLink.state c.args.link.now) c.args.self.now.state c.args.thread c.args.target c.args.offset c.args.payload.now c.requires.may in
     let len_is : length c.as_slice.result.now ≡ payload_len c.args.payload.now = ap length (c.as_slice.ensures ∙ c.in-Ok.ensures) ∙ length-payload_bytes c.args.payload.now in
-    let used : IsUsedBy c.args.self.now.state c.args.thread (call.BufferSubData c.args.target c.args.offset c.args.payload.now) (c.in-Some.buffer, false) = used_first c.args.self.now.state c.args.thread (call.BufferSubData c.args.target c.args.offset c.args.payload.now) h.0 c.args.target false [] c.in-Some.buffer refl h.1 (c.in-Some.ensures.some h.0 h.1).bound in
+    let used : IsUsedBy c.args.self.now.state c.args.thread (call.BufferSubData c.args.target c.args.offset c.args.payload.now) (Buffer c.in-Some.buffer, false) = used_first c.args.self.now.state c.args.thread (call.BufferSubData c.args.target c.args.offset c.args.payload.now) h.0 c.args.target false [] c.in-Some.buffer refl h.1 (c.in-Some.ensures.some h.0 h.1).bound in
     due_as len_is
     (may_hand (IsTrueReason (face c.args.self.now.core) c.args.self.now.state c.args.self.now.serials c.args.thread (call.BufferSubData c.args.target c.args.offset c.args.payload.now))
-    (parting_is_true (face c.args.self.now.core) c.args.self.now.state c.args.self.now.serials c.args.thread (call.BufferSubData c.args.target c.args.offset c.args.payload.now) c.in-Some-index.index ((c.in-Some.buffer, false) ∷ []) (sym c.index.ensures ∙ c.in-Some-index.is)
-    (each_of_one (IsUsedBy c.args.self.now.state c.args.thread (call.BufferSubData c.args.target c.args.offset c.args.payload.now)) (c.in-Some.buffer, false) used))
+    (parting_is_true (face c.args.self.now.core) c.args.self.now.state c.args.self.now.serials c.args.thread (call.BufferSubData c.args.target c.args.offset c.args.payload.now) c.in-Some-index.index ((Buffer c.in-Some.buffer, false) ∷ []) (sym c.index.ensures ∙ c.in-Some-index.is)
+    (each_of_one (IsUsedBy c.args.self.now.state c.args.thread (call.BufferSubData c.args.target c.args.offset c.args.payload.now)) (Buffer c.in-Some.buffer, false) used))
     c.in-Ok-fill.ensures.at_back)
 
 pub returns-clause-at_back : goal.returns-clause-at_back
 returns-clause-at_back g c =
     let h = c.data_calls_come_to.ensures.may_sub (face c.args.self.now.core) (g.L.BackLink.state c.args.link.now) c.args.self.now.state c.args.thread c.args.target c.args.offset c.args.payload.now c.requires.may in
     let len_is : length c.as_slice.result.now ≡ payload_len c.args.payload.now = ap length (c.as_slice.ensures ∙ c.in-Ok.ensures) ∙ length-payload_bytes c.args.payload.now in
-    let used : IsUsedBy c.args.self.now.state c.args.thread (call.BufferSubData c.args.target c.args.offset c.args.payload.now) (c.in-Some.buffer, false) = used_first c.args.self.now.state c.args.thread (call.BufferSubData c.args.target c.args.offset c.args.payload.now) h.0 c.args.target false [] c.in-Some.buffer refl h.1 (c.in-Some.ensures.some h.0 h.1).bound in
+    let used : IsUsedBy c.args.self.now.state c.args.thread (call.BufferSubData c.args.target c.args.offset c.args.payload.now) (Buffer c.in-Some.buffer, false) = used_first c.args.self.now.state c.args.thread (call.BufferSubData c.args.target c.args.offset c.args.payload.now) h.0 c.args.target false [] c.in-Some.buffer refl h.1 (c.in-Some.ensures.some h.0 h.1).bound in
     due_as len_is
     (may_hand (IsTrueReason (face c.args.self.now.core) c.args.self.now.state c.args.self.now.serials c.args.thread (call.BufferSubData c.args.target c.args.offset c.args.payload.now))
-    (parting_is_true (face c.args.self.now.core) c.args.self.now.state c.args.self.now.serials c.args.thread (call.BufferSubData c.args.target c.args.offset c.args.payload.now) c.in-Some-index.index ((c.in-Some.buffer, false) ∷ []) (sym c.index.ensures ∙ c.in-Some-index.is)
-    (each_of_one (IsUsedBy c.args.self.now.state c.args.thread (call.BufferSubData c.args.target c.args.offset c.args.payload.now)) (c.in-Some.buffer, false) used))
+    (parting_is_true (face c.args.self.now.core) c.args.self.now.state c.args.self.now.serials c.args.thread (call.BufferSubData c.args.target c.args.offset c.args.payload.now) c.in-Some-index.index ((Buffer c.in-Some.buffer, false) ∷ []) (sym c.index.ensures ∙ c.in-Some-index.is)
+    (each_of_one (IsUsedBy c.args.self.now.state c.args.thread (call.BufferSubData c.args.target c.args.offset c.args.payload.now)) (Buffer c.in-Some.buffer, false) used))
     (though_stopped c.fill.ensures.at_back))

@@ -1,6 +1,7 @@
 use Rattle.std.proofs.Common.{rules, ◌≡◌, refl, sym, ◌∙◌, w64, false, [], ◌∷◌}
 use Rattle.std.proofs.Math.Facts.{to_z-of_z}
 use Rattle.std.specs.Prelude.{unsigned_abs, not, ◌==◌}
+use Rattle.front_model.specs.declared.object.Object.TheVariants.{Buffer}
 use Rattle.front_moves.specs.Core.{face}
 use Rattle.front_core.specs.Copies.{MayCopy}
 use Rattle.front_core.proofs.CopyCalls.{same_cause, good_cause, may_copy_as, copied_as, copied_nothing}
@@ -80,7 +81,7 @@ pub returns-in-Ok-clause-at_back : goal.returns-in-Ok-clause-at_back
 returns-in-Ok-clause-at_back g c =
     let h = c.copy_calls_come_to.ensures.copy_names (face c.args.self.now.core) (g.L.BackLink.state c.args.link.now) c.args.self.now.state c.args.thread c.args.from c.args.to c.args.read c.args.write c.args.size c.requires.may in
     may_hand (IsTrueReason (face c.args.self.now.core) c.args.self.now.state c.args.self.now.serials c.args.thread (call.CopyBufferSubData c.args.from c.args.to c.args.read c.args.write c.args.size))
-    (parting_is_true (face c.args.self.now.core) c.args.self.now.state c.args.self.now.serials c.args.thread (call.CopyBufferSubData c.args.from c.args.to c.args.read c.args.write c.args.size) c.in-Some-index.index ((c.in-Some.source, not (c.in-Some.source == c.in-Some-bound.target)) ∷ (c.in-Some-bound.target, false) ∷ []) (sym c.index.ensures ∙ c.in-Some-index.is)
+    (parting_is_true (face c.args.self.now.core) c.args.self.now.state c.args.self.now.serials c.args.thread (call.CopyBufferSubData c.args.from c.args.to c.args.read c.args.write c.args.size) c.in-Some-index.index ((Buffer c.in-Some.source, not (c.in-Some.source == c.in-Some-bound.target)) ∷ (Buffer c.in-Some-bound.target, false) ∷ []) (sym c.index.ensures ∙ c.in-Some-index.is)
     (used_by_copy c.args.self.now.state c.args.thread h.0 c.args.from c.args.to c.args.read c.args.write c.args.size c.in-Some.source c.in-Some-bound.target h.1 (c.in-Some.ensures.some h.0 h.1).bound (c.in-Some-bound.ensures.some h.0 h.1).bound))
     c.in-Ok.ensures.at_back
 
@@ -88,7 +89,7 @@ pub returns-in-Err-clause-at_back : goal.returns-in-Err-clause-at_back
 returns-in-Err-clause-at_back g c =
     let h = c.copy_calls_come_to.ensures.copy_names (face c.args.self.now.core) (g.L.BackLink.state c.args.link.now) c.args.self.now.state c.args.thread c.args.from c.args.to c.args.read c.args.write c.args.size c.requires.may in
     may_hand (IsTrueReason (face c.args.self.now.core) c.args.self.now.state c.args.self.now.serials c.args.thread (call.CopyBufferSubData c.args.from c.args.to c.args.read c.args.write c.args.size))
-    (parting_is_true (face c.args.self.now.core) c.args.self.now.state c.args.self.now.serials c.args.thread (call.CopyBufferSubData c.args.from c.args.to c.args.read c.args.write c.args.size) c.in-Some-index.index ((c.in-Some.source, not (c.in-Some.source == c.in-Some-bound.target)) ∷ (c.in-Some-bound.target, false) ∷ []) (sym c.index.ensures ∙ c.in-Some-index.is)
+    (parting_is_true (face c.args.self.now.core) c.args.self.now.state c.args.self.now.serials c.args.thread (call.CopyBufferSubData c.args.from c.args.to c.args.read c.args.write c.args.size) c.in-Some-index.index ((Buffer c.in-Some.source, not (c.in-Some.source == c.in-Some-bound.target)) ∷ (Buffer c.in-Some-bound.target, false) ∷ []) (sym c.index.ensures ∙ c.in-Some-index.is)
     (used_by_copy c.args.self.now.state c.args.thread h.0 c.args.from c.args.to c.args.read c.args.write c.args.size c.in-Some.source c.in-Some-bound.target h.1 (c.in-Some.ensures.some h.0 h.1).bound (c.in-Some-bound.ensures.some h.0 h.1).bound))
     (though_stopped c.copy.ensures.at_back)
 

@@ -1,3 +1,4 @@
+use Rattle.front_model.specs.declared.object.Object.TheVariants.{Buffer}
 use Rattle.front_moves.specs.Core.{face}
 use Rattle.front_core.proofs.DataCalls.{on_ok}
 use Rattle.std.proofs.Common.{false, [], ◌∷◌, length}
@@ -20,8 +21,8 @@ returns-else-at-eq0-clause-filled g c =
 
 pub returns-then-is_empty-clause-at_back : goal.returns-then-is_empty-clause-at_back
 returns-then-is_empty-clause-at_back g c =
-    nothing_done (g.L.BackLink.state c.args.link.now) (g.L.BackLink.told c.args.link.now) (length c.args.bytes.now) false false (IsParting (face c.args.self.now.core) c.args.index ((c.args.buffer, false) ∷ []))
+    nothing_done (g.L.BackLink.state c.args.link.now) (g.L.BackLink.told c.args.link.now) (length c.args.bytes.now) false false (IsParting (face c.args.self.now.core) c.args.index ((Buffer c.args.buffer, false) ∷ []))
 
 pub returns-then-bytes-size-clause-at_back : goal.returns-then-bytes-size-clause-at_back
 returns-then-bytes-size-clause-at_back g c =
-    may_hand (IsParting (face c.args.self.now.core) c.args.index ((c.args.buffer, false) ∷ [])) (no_batch (IsParting (face c.args.self.now.core) c.args.index ((c.args.buffer, false) ∷ []))) c.store.ensures.at_back
+    may_hand (IsParting (face c.args.self.now.core) c.args.index ((Buffer c.args.buffer, false) ∷ [])) (no_batch (IsParting (face c.args.self.now.core) c.args.index ((Buffer c.args.buffer, false) ∷ []))) c.store.ensures.at_back

@@ -4,6 +4,7 @@ use Rattle.gl_model.specs.declared.state.GroupState.{GroupState}
 use Rattle.gl_model.specs.GroupEffect.{group_effect}
 use Rattle.gl_calls.specs.declared.call.Call.TheVariants as call
 use Rattle.gl_calls.specs.declared.reply.Reply.TheVariants as reply
+use Rattle.front_model.specs.declared.object.Object.TheVariants.{Buffer}
 use Rattle.front_moves.specs.Core.{face}
 use Rattle.front_core.specs.Share.{IsCarriedOut}
 use Rattle.front_core.proofs.CopyCalls.{same_cause}
@@ -45,15 +46,15 @@ returns-in-Err-clause-cause g c = same_cause (g.L.BackLink.faults c.args.link.no
 pub returns-in-Ok-clause-at_back : goal.returns-in-Ok-clause-at_back
 returns-in-Ok-clause-at_back g c =
     let h = c.copy_calls_come_to.ensures.map_names (face c.args.self.now.core) (g.L.BackLink.state c.args.link.now) c.args.self.now.state c.args.thread c.args.target c.args.offset c.args.length c.args.access c.requires.may in
-    let used : IsUsedBy c.args.self.now.state c.args.thread (call.MapBufferRange c.args.target c.args.offset c.args.length c.args.access) (c.in-Some.buffer, false) = used_first c.args.self.now.state c.args.thread (call.MapBufferRange c.args.target c.args.offset c.args.length c.args.access) h.0 c.args.target false [] c.in-Some.buffer refl h.1 (c.in-Some.ensures.some h.0 h.1).bound in
+    let used : IsUsedBy c.args.self.now.state c.args.thread (call.MapBufferRange c.args.target c.args.offset c.args.length c.args.access) (Buffer c.in-Some.buffer, false) = used_first c.args.self.now.state c.args.thread (call.MapBufferRange c.args.target c.args.offset c.args.length c.args.access) h.0 c.args.target false [] c.in-Some.buffer refl h.1 (c.in-Some.ensures.some h.0 h.1).bound in
     may_hand (IsTrueReason (face c.args.self.now.core) c.args.self.now.state c.args.self.now.serials c.args.thread (call.MapBufferRange c.args.target c.args.offset c.args.length c.args.access))
-    (settling_is_true (face c.args.self.now.core) c.args.self.now.state c.args.self.now.serials c.args.thread (call.MapBufferRange c.args.target c.args.offset c.args.length c.args.access) c.in-Some-index.index c.in-Some.buffer (sym c.index.ensures ∙ c.in-Some-index.is) used refl)
+    (settling_is_true (face c.args.self.now.core) c.args.self.now.state c.args.self.now.serials c.args.thread (call.MapBufferRange c.args.target c.args.offset c.args.length c.args.access) c.in-Some-index.index (Buffer c.in-Some.buffer) (sym c.index.ensures ∙ c.in-Some-index.is) used refl)
     c.in-Ok.ensures.at_back
 
 pub returns-in-Err-clause-at_back : goal.returns-in-Err-clause-at_back
 returns-in-Err-clause-at_back g c =
     let h = c.copy_calls_come_to.ensures.map_names (face c.args.self.now.core) (g.L.BackLink.state c.args.link.now) c.args.self.now.state c.args.thread c.args.target c.args.offset c.args.length c.args.access c.requires.may in
-    let used : IsUsedBy c.args.self.now.state c.args.thread (call.MapBufferRange c.args.target c.args.offset c.args.length c.args.access) (c.in-Some.buffer, false) = used_first c.args.self.now.state c.args.thread (call.MapBufferRange c.args.target c.args.offset c.args.length c.args.access) h.0 c.args.target false [] c.in-Some.buffer refl h.1 (c.in-Some.ensures.some h.0 h.1).bound in
+    let used : IsUsedBy c.args.self.now.state c.args.thread (call.MapBufferRange c.args.target c.args.offset c.args.length c.args.access) (Buffer c.in-Some.buffer, false) = used_first c.args.self.now.state c.args.thread (call.MapBufferRange c.args.target c.args.offset c.args.length c.args.access) h.0 c.args.target false [] c.in-Some.buffer refl h.1 (c.in-Some.ensures.some h.0 h.1).bound in
     may_hand (IsTrueReason (face c.args.self.now.core) c.args.self.now.state c.args.self.now.serials c.args.thread (call.MapBufferRange c.args.target c.args.offset c.args.length c.args.access))
-    (settling_is_true (face c.args.self.now.core) c.args.self.now.state c.args.self.now.serials c.args.thread (call.MapBufferRange c.args.target c.args.offset c.args.length c.args.access) c.in-Some-index.index c.in-Some.buffer (sym c.index.ensures ∙ c.in-Some-index.is) used refl)
+    (settling_is_true (face c.args.self.now.core) c.args.self.now.state c.args.self.now.serials c.args.thread (call.MapBufferRange c.args.target c.args.offset c.args.length c.args.access) c.in-Some-index.index (Buffer c.in-Some.buffer) (sym c.index.ensures ∙ c.in-Some-index.is) used refl)
     (though_stopped c.settle.ensures.at_back)

@@ -1,6 +1,7 @@
 use Rattle.std.proofs.Common.{arith, rules, ◌≡◌, ◌+◌, ◌<◌, refl, sym, ◌∙◌, ap, subst, w64, length, [], false, true}
 use Rattle.cells.specs.Contents.{cells, Agrees}
-use Rattle.front_model.specs.Face.{Buffer, view}
+use Rattle.front_model.specs.declared.object.Object.TheVariants.{Buffer}
+use Rattle.front_model.specs.Face.{view}
 use Rattle.std.proofs.Math.Facts.{to_z-of_z}
 use Rattle.std.specs.Prelude.{unsigned_abs}
 use Rattle.std.proofs.lemmas.List.{length-replicate}

@@ -1,4 +1,8 @@
 use Rattle.std.proofs.Common.{◌≡◌, false, true, subst, sym, ◌∙◌, ap}
+use Rattle.std.specs.Prelude.{map, ◌++◌}
+use Rattle.front_model.specs.declared.object.Object.TheVariants.{Buffer, Texture, Renderbuffer}
+use Rattle.front_core.specs.Gone.{objects_gone}
+use Rattle.front_core.proofs.GoneBuffers.{are_gone}
 use Rattle.gl_model.specs.declared.state.GroupState.{GroupState}
 use Rattle.gl_model.specs.GroupEffect.{group_effect}
 use Rattle.gl_state.specs.Ended.{gone}
@@ -12,13 +16,17 @@ use Rattle.front_core.proofs.share.Share.state_call.Goals as goal
 pub returns-in-Some-clause-done : goal.returns-in-Some-clause-done
 returns-in-Some-clause-done g c =
     let before : GroupState = c.args.self.now.state in
-    let ended_is : c.in-Ok.applied.ended.buffers.items ≡ gone before.buffers (group_effect before c.args.thread c.args.call.now).buffers
-    = c.in-Ok.ensures.ended.buffers ∙ ap (λ (x : GroupState). gone before.buffers x.buffers) c.in-Ok.ensures.ok in
+    let after : GroupState = group_effect before c.args.thread c.args.call.now in
+    let listed : map Buffer c.in-Ok.applied.ended.buffers.items ++ map Texture c.in-Ok.applied.ended.textures.items ++ map Renderbuffer c.in-Ok.applied.ended.renderbuffers.items ≡ objects_gone before after
+    = are_gone before after c.in-Ok.applied.ended.buffers.items c.in-Ok.applied.ended.textures.items c.in-Ok.applied.ended.renderbuffers.items
+    (c.in-Ok.ensures.ended.buffers ∙ ap (λ (x : GroupState). gone before.buffers x.buffers) c.in-Ok.ensures.ok)
+    (c.in-Ok.ensures.ended.textures ∙ ap (λ (x : GroupState). gone before.textures x.textures) c.in-Ok.ensures.ok)
+    (c.in-Ok.ensures.ended.renderbuffers ∙ ap (λ (x : GroupState). gone before.renderbuffers x.renderbuffers) c.in-Ok.ensures.ok) in
     subst (λ x. IsCarriedOut (face c.args.self.now.core) (face c.end_all.new.self) (g.L.BackLink.state c.args.link.now) (g.L.BackLink.state c.end_all.new.link) before x c.args.thread c.args.call.now c.in-Some.reply)
     (sym c.in-Ok.ensures.ok)
-    (c.state_calls_come_to.ensures.carried c.args.self.now.core (face c.end_all.new.self) (g.L.BackLink.state c.args.link.now) (g.L.BackLink.state c.end_all.new.link) before c.args.thread c.args.call.now c.in-Some.reply c.in-Ok.applied.ended.buffers.items
-    c.requires.which c.requires.may (sym c.in-Ok.ensures.reply ∙ c.in-Some.is) ended_is
-    (subst (λ xs. HasEnded (face c.args.self.now.core) (face c.end_all.new.self) (g.L.BackLink.state c.args.link.now) (g.L.BackLink.state c.end_all.new.link) xs) c.as_slice.ensures.value c.end_all.ensures.ended))
+    (c.state_calls_come_to.ensures.carried c.args.self.now.core (face c.end_all.new.self) (g.L.BackLink.state c.args.link.now) (g.L.BackLink.state c.end_all.new.link) before c.args.thread c.args.call.now c.in-Some.reply (map Buffer c.in-Ok.applied.ended.buffers.items ++ map Texture c.in-Ok.applied.ended.textures.items ++ map Renderbuffer c.in-Ok.applied.ended.renderbuffers.items)
+    c.requires.which c.requires.may (sym c.in-Ok.ensures.reply ∙ c.in-Some.is) listed
+    (rw (sym c.as_slice.ensures.value, sym c.as_slice-in-Ok.ensures.value, sym c.as_slice-in-Ok-2.ensures.value) c.end_all.ensures.ended))
 
 pub returns-in-Err-clause-err : goal.returns-in-Err-clause-err
 returns-in-Err-clause-err g c = c.state_calls_come_to.ensures.owns (face c.args.self.now.core) (g.L.BackLink.state c.args.link.now) c.requires.may.backs.holds
