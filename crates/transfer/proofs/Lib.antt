@@ -1,0 +1,13 @@
+pub mod Places
+pub mod Painting
+pub mod Uploading
+pub mod Reading
+pub mod Copying
+pub mod Clearing
+pub mod Searching
+pub mod Flooring
+pub mod Columns
+pub mod Converting
+pub mod Blitting
+pub mod Bytes
+pub mod Holding

@@ -1,0 +1,7 @@
+pub mod Shown
+pub mod Uploads
+pub mod Overlaps
+pub mod Copies
+pub mod Clears
+pub mod Blits
+pub mod Held
