@@ -1,5 +1,5 @@
 -- A back that was not stopped is stopped by what it answers.
-use Rattle.std.proofs.Common.{◌≡◌, ℕ, false, cond, List, [], ◌∷◌, ◌++◌, refl, sym, ap, ◌∙◌, inl, inr}
+use Rattle.std.proofs.Common.{◌≡◌, ℕ, Bool, true, false, cond, List, [], ◌∷◌, ◌++◌, refl, sym, ap, ◌∙◌, inl, inr}
 use Rattle.std.specs.Prelude.{◌⊎◌, Result, Ok, Err, IfErr}
 use Rattle.std.proofs.lemmas.List.Sums.{fold-append}
 use Rattle.vk_types.specs.declared.stops.Stop.{Stop}
@@ -22,6 +22,14 @@ stopped_now h s runs = ap (λ b. ending_of (cond b h (h ++ event.Stopped s ∷ [
     by_ending Running runs = refl
     by_ending Closing runs = refl
     by_ending (Stopped t) bad = absurd (cc (bad))
+
+-- after a stop was answered the back is stopped, by that stop or by an earlier one
+pub stopped_after : (h : List BackEvent) (s : Stop) → is_stopped (ending_of (stopped_by h s)) ≡ true
+stopped_after h s = by_ending (is_stopped (ending_of h)) refl
+  where
+    by_ending : (b : Bool) → is_stopped (ending_of h) ≡ b → is_stopped (ending_of (stopped_by h s)) ≡ true
+    by_ending true was = ap (λ b. is_stopped (ending_of (cond b h (h ++ event.Stopped s ∷ [])))) was ∙ was
+    by_ending false runs = ap is_stopped (stopped_now h s runs)
 
 pub first_stop : {T : Type 0} (h new : List BackEvent) (r : Result T Stop) → is_stopped (ending_of h) ≡ false → IfErr r (λ s. new ≡ stopped_by h s) → IfErr r (λ s. ending_of new ≡ Stopped s)
 first_stop h new (Ok x) runs err = err

@@ -7,3 +7,7 @@ pub mod Endings
 pub mod Causes
 pub mod Acting
 pub mod Working
+pub mod Crossing
+pub mod Done
+pub mod Ordered
+pub mod Closed

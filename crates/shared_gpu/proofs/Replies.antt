@@ -37,6 +37,9 @@ module _ (g o o' : ℕ) (p t : PassModel Noted) (h new : List BackEvent) (taken 
   pub adds_none : new ≡ h → Adds t o' new
   adds_none is = adds_nothing t o' h new seen_is taken.shown is
 
+  pub adds_stopped : Others → (s : Stop) → new ≡ stopped_by h s → Adds t o' new
+  adds_stopped others s is = adds_stop t o' h new seen_is taken.shown others s is
+
   pub adds_reply : {T : Type 0} → Others → (r : Result T Stop) (event : T → BackEvent) (f : T → Link → Link) → ((x : T) → IsMine g h (event x) (f x)) → IfOk r (λ x. new ≡ h ++ event x ∷ []) → IfErr r (λ s. new ≡ stopped_by h s) → Adds t o' new
   adds_reply others (Ok x) event f mine ok err = adds_one (event x) (f x) (mine x) ok
   adds_reply others (Err s) event f mine ok err = adds_stop t o' h new seen_is taken.shown others s err

@@ -28,6 +28,7 @@ use Rattle.shared_gpu.specs.declared.noted.Noted.TheVariants.{Happened}
 use Rattle.shared_gpu.specs.Notes.{owner, names_of, notes_of, events_of, Adds}
 use Rattle.shared_gpu.specs.Views.{SharedModel, back_of}
 use Rattle.shared_gpu.specs.Turns.{InOneTurn, WereLoaded, StopsCleaning}
+use Rattle.shared_gpu.proofs.Words.{shown_at, shown_counted}
 use Rattle.shared_gpu.proofs.Links.{Others, events_noted, notes_more, adds_nothing, adds_stop}
 
 -- Where a turn began
@@ -118,6 +119,17 @@ shown_one words at n f k wide inside shown here others word some low = dite (ℕ
     (λ e. let back : word - 1 ≡ at = omega (arith, e) in ap (λ i. get_or (set words (at + 1) n) i 0) e ∙ (get_or-set_same words (at + 1) n 0 (omega arith) ∙ (sym here ∙ ap k (sym back))))
     (λ apart. get_or-set_other words (at + 1) word n 0 apart ∙ (shown word some low ∙ sym (others (word - 1) (omega arith) (λ e. apart (omega (arith, e))))))
 
+-- the same after the turn was given back, with the number of entries in word 0
+pub shown_retired : (words mid now : List ℕ) (at word m n : ℕ) (f k : ℕ → ℕ) → ((index : ℕ) → index < 64 → index ≢ at → k index ≡ f index) → length words ≡ 66 → ((word : ℕ) → 0 < word → word < 65 → slice_index words word ≡ f (word - 1))
+    → mid ≡ slice_set words word m → now ≡ slice_set mid 0 n → at < 64 → word ≡ at + 1 → m ≡ k at → (index : ℕ) → index < 64 → slice_index now (index + 1) ≡ k index
+shown_retired words mid now at word m n f k others wide shown published given low place number =
+    let here : mid ≡ slice_set words (at + 1) (k at) = published ∙ (λ i. slice_set words (place i) (number i)) in
+    shown_counted mid now n k given (shown_at mid k (λ w some high. ap (λ l. slice_index l w) here ∙ shown_one words at (k at) f k wide low shown refl others w some high))
+
+pub retired_begins : (o o' : ℕ) (h new : List BackEvent) (serial : QueueSerial) → o' ≡ o → RetiresOne h new serial → IsPrefix (notes_of o h) (notes_of o' new)
+retired_begins o o' h new serial kept some =
+    begins_before (notes_of o h) (notes_of o' h) (notes_of o' new) (Happened (event.Retired serial) ∷ []) (ap (λ k. notes_of k h) (sym kept)) (notes_more o' new h (event.Retired serial ∷ []) some.0)
+
 -- Loads
 
 pub loaded_next : (read : List ℕ) (loads more : List (ℕ × ℕ)) (index n : ℕ) → length read ≡ 64 → index < 64 → ((k : ℕ) → k < index → slice_index read k ≡ greatest (k + 1) loads) → greatest (index + 1) more ≡ n
@@ -133,9 +145,10 @@ were_read loads f read were below index low =
 
 -- What a turn did, by its answer
 
-module _ {D : Type 0} (before now : PassModel Noted) (s t : SharedModel D) (begins : IsPrefix before.seen (notes_of s.opened s.history)) (seen : now.seen ≡ notes_of t.opened t.history) (opened : t.opened ≡ s.opened) where
+module _ {D : Type 0} (before now : PassModel Noted) (s t : SharedModel D) (begins : IsPrefix before.seen (notes_of s.opened s.history)) (seen : now.seen ≡ notes_of t.opened t.history)
+    (shown : (index : ℕ) → index < 64 → slice_index now.words (index + 1) ≡ completed t.history index) (opened : t.opened ≡ s.opened) where
   pub in_one_turn : (Did : SharedModel D → SharedModel D → Type 0) → Did s t → InOneTurn D before now Did
-  in_one_turn Did did = record { old = s; new = t; begins = begins; seen = seen; opened = opened; did = did }
+  in_one_turn Did did = record { old = s; new = t; begins = begins; seen = seen; opened = opened; shown = shown; did = did }
 
   pub turn_ok : {T E : Type 0} (r : Result T E) (Did : T → SharedModel D → SharedModel D → Type 0) → IfOk r (λ x. Did x s t) → IfOk r (λ x. InOneTurn D before now (Did x))
   turn_ok (Ok x) Did did = in_one_turn (Did x) did

@@ -2,7 +2,8 @@
 use Rattle.std.specs.Prelude.{◌≡◌, ℕ, ◌+◌, ◌/◌, ◌<◌, slice_index, List, [], ◌∷◌, ◌++◌, map, Option, Some, None}
 use Rattle.std.specs.List.{flat_map}
 use Rattle.back_core.specs.declared.back_event.BackEvent.{BackEvent}
-use Rattle.back_core.specs.declared.back_event.BackEvent.TheVariants.{Created, Wrote, Enqueued, Submitted, Ran, Retired, Fetched, Gave, Abandoned, Cleaned, Closing, Stopped}
+use Rattle.back_core.specs.declared.back_event.BackEvent.TheVariants.{Created, Wrote, Enqueued, Submitted, Ran, Retired}
+use Rattle.back_core.specs.declared.back_event.BackEvent.TheVariants.{Fetched, Gave, Abandoned, Cleaned, Closing, Stopped}
 use Rattle.back_core.specs.History.{completed}
 use Rattle.turnstile.specs.Histories.{NamesOnly}
 use Rattle.turnstile.specs.Views.{PassModel}

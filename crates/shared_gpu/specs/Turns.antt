@@ -1,5 +1,6 @@
 -- What the turns of workers do at a back.
 use Rattle.std.specs.Prelude.{◌≡◌, ℕ, ◌+◌, ◌<◌, true, false, slice_index, List}
+use Rattle.back_core.specs.History.{completed}
 use mathlib.Core.List.{IsPrefix}
 use Rattle.vk_types.specs.declared.stops.Stop.{Stop}
 use Rattle.vk_device.specs.declared.logged.Logged.{Logged}
@@ -12,13 +13,14 @@ use Rattle.shared_gpu.specs.Notes.{notes_of}
 use Rattle.shared_gpu.specs.Views.{SharedModel, back_of}
 
 -- One turn of a pass did this to the back: what it found began with all that the pass had seen before, and what it left is what the
--- pass has seen now.
+-- pass has seen now. The words show the completed numbers of what it left.
 pub record InOneTurn (D : Type 0) (before now : PassModel Noted) (Did : SharedModel D → SharedModel D → Type 0) : Type 0 where
   pub old : SharedModel D
   pub new : SharedModel D
   pub begins : IsPrefix before.seen (notes_of old.opened old.history)
   pub seen : now.seen ≡ notes_of new.opened new.history
   pub opened : new.opened ≡ old.opened
+  pub shown : (index : ℕ) → index < 64 → slice_index now.words (index + 1) ≡ completed new.history index
   pub did : Did old new
 
 -- a pass between its turns, of the same turnstile, number and joined passes as before

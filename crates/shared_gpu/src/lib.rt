@@ -4,7 +4,8 @@
 //! pass of the group, and all others name none. Word 1 + i of the turnstile publishes the completed number of index i. So what
 //! a group sees, `seat_link` of `specs/Seats.antt`, is told by its own entries and its own loads, whatever other threads do.
 //!
-//! A [`Seat`] is a group with its pass, and [`Seated`] the group's link, which takes its turns by the seat.
+//! A [`Seat`] is a group with its pass, and [`Seated`] the group's link, which takes its turns by the seat. The workers
+//! ([`submission_worker`], [`device_worker`], [`cleanup_worker`]) take theirs by passes that no group has.
 #![tactic(auto)]
 
 mod noted;
@@ -12,12 +13,17 @@ mod seat;
 mod seated;
 mod shared;
 mod shared_calls;
+mod shared_end;
 mod shared_steps;
 mod turns;
 mod worker_turns;
+mod workers;
 
 pub use noted::Noted;
 pub use seat::Seat;
 pub use seated::Seated;
 pub use shared::Shared;
-pub use worker_turns::{begin_closing, clean_up, execute_one, read_all, retire_one, submit_one};
+pub use worker_turns::{
+    begin_closing, clean_up, execute_one, look, read_all, retire_one, submit_one,
+};
+pub use workers::{cleanup_worker, device_worker, submission_worker};

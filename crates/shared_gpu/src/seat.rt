@@ -8,7 +8,7 @@ ghost use Rattle.back_core.specs.Own.{log_of, IsReadable};
 ghost use Rattle.back_core.specs.Link.{IsNew, contents_of, created, wrote, enqueued, fetched, gave, abandoned};
 ghost use Rattle.back_core.specs.Needs.{IsFresh, HostMay, MayEnqueue, MayGive, HasBatch};
 ghost use Rattle.back_core.specs.Answers.{Learns, Completes, Waits};
-ghost use Rattle.back_core.specs.Back.{ending_of};
+ghost use Rattle.back_core.specs.Back.{ending_of, is_stopped};
 ghost use Rattle.turnstile.specs.Histories.{own};
 ghost use Rattle.shared_gpu.specs.Notes.{events_of, names_of};
 ghost use Rattle.shared_gpu.specs.Seats.{seat_link, IsSeat};
@@ -44,10 +44,9 @@ impl<D: Device, N: Naming> Model for Seat<D, N> {
 }
 
 impl<D: Device, N: Naming> Seat<D, N> {
-    /// The seat of a group, which is numbered from 0 to 7, by its pass, which has the number after the group's.
+    /// The seat of a group, one of 0 to 7, by its pass, which has the number after the group's.
     pub fn new(group: u8, pass: Pass<Shared<D>>) -> Seat<D, N>
-        requires few { group < 8 }
-        requires seat { IsSeat N.name group pass }
+        requires { IsSeat N.name group pass }
         ensures group { result.group ≡ group }
         ensures pass { result.pass ≡ pass }
         ensures new { own names_of (group + 1) pass.seen ≡ [] → IsNew (seat_link result) group }
@@ -266,6 +265,20 @@ impl<D: Device, N: Naming> Seat<D, N> {
     {
         let mut turn = take(rt, back, &mut self.pass, self.group);
         turn.value.abandon(self.group, handle);
+        put(back, &mut self.pass, turn);
+    }
+
+    /// Stops the back for want of memory, unless it was stopped before, by one turn. The group sees what it saw.
+    pub fn stop_for_memory<R: Wait>(&mut self, rt: &R, back: &Turnstile<Shared<D>>)
+        requires { back.now.name ≡ N.name }
+        ensures link { seat_link self.new ≡ seat_link self.old }
+        ensures stopped { is_stopped (ending_of (events_of self.new.pass.seen)) ≡ true }
+        ensures group { self.new.group ≡ self.old.group }
+        ensures begins { IsPrefix self.old.pass.seen self.new.pass.seen }
+    {
+        what_a_group_sees();
+        let mut turn = take(rt, back, &mut self.pass, self.group);
+        turn.value.stop_for_memory();
         put(back, &mut self.pass, turn);
     }
 }

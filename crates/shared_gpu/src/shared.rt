@@ -3,9 +3,11 @@ ghost use Rattle.std.specs.Prelude.{◌≡◌, ◌+◌, ◌<◌, ℕ, [], IfOk, 
 ghost use Rattle.vk_types.specs.declared.stops.Stop.TheVariants.{Memory};
 ghost use Rattle.back_core.specs.Back.{ending_of, stopped_by, closed_by};
 ghost use Rattle.back_core.specs.Losses.{LossHasCause};
+ghost use Rattle.shared_gpu.specs.Orderly.{IsOrderly};
+ghost use Rattle.shared_gpu.specs.Workers.{IsWhatIsLeft};
 
 use crate::Noted;
-use back_core::{Back, Ending};
+use back_core::{Back, Ending, Left, cleanups_stay_whole};
 use std::alloc::Global;
 use std::marker::Model;
 use std::snapshot::Snapshot;
@@ -15,7 +17,7 @@ use vk_types::SerialIndex;
 
 /// A back, and its device as it was when the back was made, which contracts alone see: a loss of the device has stopped the
 /// back only where the device's count of faults has risen since. On a stopped back the calls that may stop it answer the
-/// first stop, and do not reach the device.
+/// first stop, and do not reach the device. No more than the eight groups use it, and no cleanup is cut off unless that stops it.
 pub struct Shared<D: Device> {
     pub(crate) back: Back<D>,
     pub(crate) opened: Snapshot<D>,
@@ -27,10 +29,11 @@ impl<D: Device> Model for Shared<D> {
     ghost Value = { SharedModel D };
 
     ghost use Rattle.back_core.specs.Losses.{LossHasCause};
+    ghost use Rattle.shared_gpu.specs.Orderly.{IsOrderly};
 
     ghost view = { λ s. record { device = s.back.device; history = s.back.history; opened = D.faults s.opened.value } };
 
-    ghost invariant = { λ s. LossHasCause (D.faults s.opened.value) (D.faults s.back.device) s.back.history };
+    ghost invariant = { λ s. LossHasCause (D.faults s.opened.value) (D.faults s.back.device) s.back.history × IsOrderly s.back.history };
 }
 
 impl<D: Device> Chronicle for Shared<D> {
@@ -62,6 +65,7 @@ impl<D: Device> Shared<D> {
         ensures ok { IfOk result (λ s. s ≡ record { device = device; history = []; opened = D.faults device }) }
         ensures err { IfErr result (λ back. back ≡ device) }
     {
+        cleanups_stay_whole();
         let opened = Snapshot::of(&device);
         match Back::new(alloc, device) {
             Ok(back) => Ok(Shared { back, opened }),
@@ -74,6 +78,7 @@ impl<D: Device> Shared<D> {
         ensures history { result.history ≡ self.history }
         ensures device { result.device ≡ self.device }
         ensures losses { LossHasCause self.opened (D.faults result.device) result.history }
+        ensures orderly { IsOrderly result.history }
     {
         let Shared { back, opened: _ } = self;
         back
@@ -86,11 +91,19 @@ impl<D: Device> Shared<D> {
         self.back.ending()
     }
 
+    /// What is left to do.
+    pub(crate) fn left(&self) -> Left
+        ensures { IsWhatIsLeft self.now.history result }
+    {
+        self.back.left()
+    }
+
     /// A back that runs is closing from now on. This takes no memory.
     pub(crate) fn begin_closing(&mut self)
         ensures history { self.new.history ≡ closed_by self.old.history }
         ensures rest { (self.new.device ≡ self.old.device) × (self.new.opened ≡ self.old.opened) }
     {
+        cleanups_stay_whole();
         self.back.begin_closing();
     }
 
@@ -99,6 +112,7 @@ impl<D: Device> Shared<D> {
         ensures history { self.new.history ≡ stopped_by self.old.history Memory }
         ensures rest { (self.new.device ≡ self.old.device) × (self.new.opened ≡ self.old.opened) }
     {
+        cleanups_stay_whole();
         self.back.stop_for_memory();
     }
 }

@@ -10,7 +10,7 @@ ghost use Rattle.shared_gpu.specs.Views.{back_of};
 ghost use Rattle.shared_gpu.specs.Turns.{StopsCleaning};
 
 use crate::Shared;
-use back_core::{Ending, Step};
+use back_core::{Ending, Step, cleanups_stay_whole};
 use vk_device::{Device, Turned};
 use vk_types::{QueueSerial, Stop};
 
@@ -22,6 +22,7 @@ impl<D: Device> Shared<D> {
         ensures first { IfErr result (λ stop. ending_of self.new.history ≡ Stopped stop) }
         ensures opened { self.new.opened ≡ self.old.opened }
     {
+        cleanups_stay_whole();
         match self.back.ending() {
             Ending::Stopped(stop) => Err(stop),
             Ending::Running | Ending::Closing => self.back.submit_one(),
@@ -35,6 +36,7 @@ impl<D: Device> Shared<D> {
         ensures first { IfErr result (λ stop. ending_of self.new.history ≡ Stopped stop) }
         ensures opened { self.new.opened ≡ self.old.opened }
     {
+        cleanups_stay_whole();
         match self.back.ending() {
             Ending::Stopped(stop) => Err(stop),
             Ending::Running | Ending::Closing => self.back.turn(),
@@ -44,11 +46,13 @@ impl<D: Device> Shared<D> {
     /// Retires a batch and gives its serial; `None` exactly where no batch can be retired.
     pub(crate) fn retire(&mut self) -> Option<QueueSerial>
         ensures some { IfSome result (λ serial. RetiresOne self.old.history self.new.history serial) }
-        ensures others { IfSome result (λ serial. (i : ℕ) → i < 64 → i ≢ serial.index → completed self.new.history i ≡ completed self.old.history i) }
+        ensures others { IfSome result (λ serial. (i : ℕ) → i < 64 → i ≢ serial.index →
+            completed self.new.history i ≡ completed self.old.history i) }
         ensures none { IfNone result ((place : ℕ) → CanRetire (queue_history self.old.history) place → ⊥) }
         ensures unchanged { IfNone result (self.new ≡ self.old) }
         ensures rest { (self.new.device ≡ self.old.device) × (self.new.opened ≡ self.old.opened) }
     {
+        cleanups_stay_whole();
         self.back.retire()
     }
 
@@ -61,6 +65,7 @@ impl<D: Device> Shared<D> {
         ensures first { IfErr result (λ stop. ending_of self.new.history ≡ Stopped stop) }
         ensures opened { self.new.opened ≡ self.old.opened }
     {
+        cleanups_stay_whole();
         match self.back.ending() {
             Ending::Stopped(stop) => Err(stop),
             Ending::Running | Ending::Closing => self.back.cleanup(read),

@@ -10,10 +10,11 @@ ghost use Rattle.back_core.specs.Steps.{Submits, Turns, RetiresOne, CleansUp};
 ghost use Rattle.shared_gpu.specs.Notes.{events_of};
 ghost use Rattle.shared_gpu.specs.Views.{back_of};
 ghost use Rattle.shared_gpu.specs.Turns.{InOneTurn, IsKept, WereLoaded, StopsCleaning};
+ghost use Rattle.shared_gpu.specs.Workers.{IsWhatIsLeft};
 
 use crate::Shared;
 use crate::turns::put;
-use back_core::{Step, groups_are_apart, what_a_group_sees};
+use back_core::{Ending, Left, Step, groups_are_apart, what_a_group_sees};
 use std::sync::Wait;
 use turnstile::{Pass, Turnstile};
 use vk_device::{Device, Turned};
@@ -28,6 +29,7 @@ pub fn submit_one<D: Device, R: Wait>(
 ) -> Result<Step, Stop>
     requires { (pass.old.name ≡ back.now.name) × (pass.old.holds ≡ false) }
     ensures kept { IsKept pass.old pass.new }
+    ensures begins { IsPrefix pass.old.seen pass.new.seen }
     ensures ok { IfOk result (λ step. InOneTurn D pass.old pass.new (λ s t. Submits s.history t.history step)) }
     ensures err { IfErr result (λ stop. InOneTurn D pass.old pass.new (λ s t. t.history ≡ stopped_by s.history stop)) }
     ensures stopped { IfErr result (λ stop. ending_of (events_of pass.new.seen) ≡ Stopped stop) }
@@ -48,6 +50,7 @@ pub fn execute_one<D: Device, R: Wait>(
 ) -> Result<Turned, Stop>
     requires { (pass.old.name ≡ back.now.name) × (pass.old.holds ≡ false) }
     ensures kept { IsKept pass.old pass.new }
+    ensures begins { IsPrefix pass.old.seen pass.new.seen }
     ensures ok { IfOk result (λ turned. InOneTurn D pass.old pass.new (λ s t. Turns s.history t.history turned)) }
     ensures err { IfErr result (λ stop. InOneTurn D pass.old pass.new (λ s t. t.history ≡ stopped_by s.history stop)) }
     ensures stopped { IfErr result (λ stop. ending_of (events_of pass.new.seen) ≡ Stopped stop) }
@@ -68,8 +71,10 @@ pub fn retire_one<D: Device, R: Wait>(
 ) -> Option<QueueSerial>
     requires { (pass.old.name ≡ back.now.name) × (pass.old.holds ≡ false) }
     ensures kept { IsKept pass.old pass.new }
+    ensures begins { IsPrefix pass.old.seen pass.new.seen }
     ensures some { IfSome result (λ serial. InOneTurn D pass.old pass.new (λ s t. RetiresOne s.history t.history serial)) }
-    ensures none { IfNone result (InOneTurn D pass.old pass.new (λ s t. (t ≡ s) × ((place : ℕ) → CanRetire (queue_history s.history) place → ⊥))) }
+    ensures none { IfNone result (InOneTurn D pass.old pass.new
+        (λ s t. (t ≡ s) × ((place : ℕ) → CanRetire (queue_history s.history) place → ⊥))) }
 {
     groups_are_apart();
     let mut turn = back.take(rt, pass);
@@ -84,6 +89,26 @@ pub fn retire_one<D: Device, R: Wait>(
             None
         }
     }
+}
+
+/// How the back ends, and what is left to do, by one turn that adds nothing.
+pub fn look<D: Device, R: Wait>(
+    rt: &R,
+    back: &Turnstile<Shared<D>>,
+    pass: &mut Pass<Shared<D>>,
+) -> (Ending, Left)
+    requires { (pass.old.name ≡ back.now.name) × (pass.old.holds ≡ false) }
+    ensures kept { IsKept pass.old pass.new }
+    ensures begins { IsPrefix pass.old.seen pass.new.seen }
+    ensures turn { InOneTurn D pass.old pass.new (λ s t. t ≡ s) }
+    ensures ending { result.0 ≡ ending_of (events_of pass.new.seen) }
+    ensures left { IsWhatIsLeft (events_of pass.new.seen) result.1 }
+{
+    let turn = back.take(rt, pass);
+    let ending = turn.value.ending();
+    let left = turn.value.left();
+    put(back, pass, turn);
+    (ending, left)
 }
 
 /// The completed numbers of all indexes, each by one load and without a turn.
@@ -108,8 +133,11 @@ pub fn clean_up<D: Device, R: Wait>(
 ) -> Result<u64, Stop>
     requires { (pass.old.name ≡ back.now.name) × (pass.old.holds ≡ false) }
     ensures kept { IsKept pass.old pass.new }
-    ensures ok { IfOk result (λ count. InOneTurn D pass.old pass.new (λ s t. (read : List ℕ) × WereLoaded pass.new.loads read × CleansUp D.journal (back_of s) (back_of t) read count)) }
-    ensures err { IfErr result (λ stop. InOneTurn D pass.old pass.new (λ s t. (read : List ℕ) × WereLoaded pass.new.loads read × StopsCleaning D.journal s t read stop)) }
+    ensures begins { IsPrefix pass.old.seen pass.new.seen }
+    ensures ok { IfOk result (λ count. InOneTurn D pass.old pass.new
+        (λ s t. (read : List ℕ) × WereLoaded pass.new.loads read × CleansUp D.journal (back_of s) (back_of t) read count)) }
+    ensures err { IfErr result (λ stop. InOneTurn D pass.old pass.new
+        (λ s t. (read : List ℕ) × WereLoaded pass.new.loads read × StopsCleaning D.journal s t read stop)) }
     ensures stopped { IfErr result (λ stop. ending_of (events_of pass.new.seen) ≡ Stopped stop) }
 {
     what_a_group_sees();
@@ -128,6 +156,7 @@ pub fn begin_closing<D: Device, R: Wait>(
 )
     requires { (pass.old.name ≡ back.now.name) × (pass.old.holds ≡ false) }
     ensures kept { IsKept pass.old pass.new }
+    ensures begins { IsPrefix pass.old.seen pass.new.seen }
     ensures turn { InOneTurn D pass.old pass.new (λ s t. t.history ≡ closed_by s.history) }
 {
     what_a_group_sees();

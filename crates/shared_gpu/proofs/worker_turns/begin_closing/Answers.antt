@@ -20,5 +20,5 @@ pub returns-clause-turn : goal.returns-clause-turn
 returns-clause-turn g c =
     let t = c.take-turn in
     let x = c.begin_closing in
-    in_one_turn c.args.pass.now c.put.new.pass t.result.value x.new.self t.ensures.begins (ap (λ (p : PassModel Noted). p.seen) c.put.ensures.given.is) x.ensures.rest.1
+    in_one_turn c.args.pass.now c.put.new.pass t.result.value x.new.self t.ensures.begins (ap (λ (p : PassModel Noted). p.seen) c.put.ensures.given.is) c.put.ensures.given.shown x.ensures.rest.1
     (λ (s t : SharedModel _). t.history ≡ closed_by s.history) x.ensures.history

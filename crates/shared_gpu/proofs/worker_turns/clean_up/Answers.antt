@@ -46,7 +46,7 @@ returns-clause-ok g c =
     let t = c.take-turn in
     let v = t.result.value in
     let x = c.cleanup-answer in
-    turn_ok c.args.pass.now c.put.new.pass v x.new.self (seen_before g c) (ap (λ (p : PassModel Noted). p.seen) c.put.ensures.given.is) x.ensures.opened x.result
+    turn_ok c.args.pass.now c.put.new.pass v x.new.self (seen_before g c) (ap (λ (p : PassModel Noted). p.seen) c.put.ensures.given.is) c.put.ensures.given.shown x.ensures.opened x.result
     (λ count (s t : SharedModel _). (read : List ℕ) × WereLoaded c.put.new.pass.loads read × CleansUp g.D.Device.journal (back_of s) (back_of t) read count)
     (with_read c.put.new.pass.loads c.read_all-read.result x.result (λ count read. CleansUp g.D.Device.journal (back_of v) (back_of x.new.self) read count) (still_loaded g c) x.ensures.ok)
 
@@ -55,7 +55,7 @@ returns-clause-err g c =
     let t = c.take-turn in
     let v = t.result.value in
     let x = c.cleanup-answer in
-    turn_err c.args.pass.now c.put.new.pass v x.new.self (seen_before g c) (ap (λ (p : PassModel Noted). p.seen) c.put.ensures.given.is) x.ensures.opened x.result
+    turn_err c.args.pass.now c.put.new.pass v x.new.self (seen_before g c) (ap (λ (p : PassModel Noted). p.seen) c.put.ensures.given.is) c.put.ensures.given.shown x.ensures.opened x.result
     (λ stop (s t : SharedModel _). (read : List ℕ) × WereLoaded c.put.new.pass.loads read × StopsCleaning g.D.Device.journal s t read stop)
     (with_read_err c.put.new.pass.loads c.read_all-read.result x.result (λ stop read. StopsCleaning g.D.Device.journal v x.new.self read stop) (still_loaded g c) x.ensures.err)
 

@@ -21,14 +21,14 @@ pub returns-clause-ok : goal.returns-clause-ok
 returns-clause-ok g c =
     let t = c.take-turn in
     let x = c.submit_one-answer in
-    turn_ok c.args.pass.now c.put.new.pass t.result.value x.new.self t.ensures.begins (ap (λ (p : PassModel Noted). p.seen) c.put.ensures.given.is) x.ensures.opened x.result
+    turn_ok c.args.pass.now c.put.new.pass t.result.value x.new.self t.ensures.begins (ap (λ (p : PassModel Noted). p.seen) c.put.ensures.given.is) c.put.ensures.given.shown x.ensures.opened x.result
     (λ y (s t : SharedModel _). Submits s.history t.history y) x.ensures.ok
 
 pub returns-clause-err : goal.returns-clause-err
 returns-clause-err g c =
     let t = c.take-turn in
     let x = c.submit_one-answer in
-    turn_err c.args.pass.now c.put.new.pass t.result.value x.new.self t.ensures.begins (ap (λ (p : PassModel Noted). p.seen) c.put.ensures.given.is) x.ensures.opened x.result
+    turn_err c.args.pass.now c.put.new.pass t.result.value x.new.self t.ensures.begins (ap (λ (p : PassModel Noted). p.seen) c.put.ensures.given.is) c.put.ensures.given.shown x.ensures.opened x.result
     (λ stop (s t : SharedModel _). t.history ≡ stopped_by s.history stop) x.ensures.err
 
 pub returns-clause-stopped : goal.returns-clause-stopped

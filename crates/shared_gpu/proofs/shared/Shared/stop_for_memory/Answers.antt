@@ -1,9 +1,13 @@
 use Rattle.std.proofs.Common.{ap, arith}
 use Rattle.shared_gpu.proofs.Causes.{cause_memory}
+use Rattle.shared_gpu.proofs.Ordered.{orderly_stop}
+use Rattle.vk_types.specs.declared.stops.Stop.TheVariants.{Memory}
 use Rattle.shared_gpu.proofs.shared.Shared.stop_for_memory.Goals as goal
 
 pub invariant_of-self : goal.invariant_of-self
 invariant_of-self g c =
     let b = c.self.inside.back in
-    let x = c.stop_for_memory in
-    cause_memory (g.D.Device.faults c.self.inside.opened.value) (g.D.Device.faults b.device) (g.D.Device.faults x.new.self.device) b.history x.new.self.history c.self.invariant (let same = ap g.D.Device.faults x.ensures.device in omega (arith, same)) x.ensures.history
+    let x = c.stop_for_memory in (
+      cause_memory (g.D.Device.faults c.self.inside.opened.value) (g.D.Device.faults b.device) (g.D.Device.faults x.new.self.device) b.history x.new.self.history c.self.invariant.0 (let same = ap g.D.Device.faults x.ensures.device in omega (arith, same)) x.ensures.history,
+      orderly_stop b.history x.new.self.history c.self.invariant.1 c.cleanups_stay_whole.ensures.goes_on Memory x.ensures.history,
+    )
