@@ -10,6 +10,6 @@ mod call_turn;
 mod grouped;
 mod noted_call;
 
-pub use call_turn::call_once;
+pub use call_turn::{call_once, look_for_line};
 pub use grouped::Grouped;
 pub use noted_call::NotedCall;

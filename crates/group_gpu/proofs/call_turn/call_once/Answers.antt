@@ -6,7 +6,7 @@ use Rattle.turnstile.specs.Views.{PassModel}
 use Rattle.group_gpu.specs.declared.noted_call.NotedCall.{NotedCall}
 use Rattle.shared_gpu.specs.Seats.{seat_link}
 use Rattle.group_gpu.specs.Groups.{names_of, notes_of, pass_of}
-use Rattle.group_gpu.proofs.Grouping.{group_adds, group_own, history_ok, history_err, same_founding}
+use Rattle.group_gpu.proofs.Grouping.{group_adds, group_own, history_ok, history_err, same_founding, ends_with}
 use Rattle.group_gpu.proofs.call_turn.call_once.Goals as goal
 
 pub put-requires-2-clause-begins : goal.put-requires-2-clause-begins
@@ -91,6 +91,7 @@ returns-clause-called g c =
         flushes = x.ensures.flushes;
         err = x.ensures.err;
         lost = x.ensures.lost;
+        stopped = x.ensures.stopped;
         at_back = x.ensures.at_back;
         licensed = x.ensures.licensed;
       };
@@ -106,3 +107,16 @@ returns-then-is_stopped-clause-stopped g c =
       seen = ap (λ (p : PassModel NotedCall). p.seen) c.put.ensures.pass;
       did = (sym c.is_stopped.ensures ∙ c.if-is_stopped.true, refl);
     }
+
+pub returns-clause-last : goal.returns-clause-last
+returns-clause-last g c =
+    let t = c.take-turn in
+    let v = t.result.value in
+    let x = c.call-value in
+    let w = x.result.0 in
+    let m = c.requires.mine in
+    let threads : m.threads ≡ v.front.threads = same_founding m.group v.seat.group m.threads v.front.threads c.args.pass.now.seen m.more v.front.history m.seen_is t.ensures.begins in
+    let number : pass_of v.front.threads c.args.thread ≡ c.args.pass.now.number = ap (λ l. pass_of l c.args.thread) (sym threads) ∙ m.number in
+    let ok = history_ok x.result.1 v.front w.front (seat_link w.seat) c.args.thread c.args.line c.args.call.now x.ensures.ok in
+    ends_with c.args.pass.now.number v.seat.group w.seat.group c.args.thread c.args.line v.front.threads w.front.threads v.front.history w.front.history c.args.call.now x.ensures.group x.ensures.threads number c.args.pass.now.seen c.put-2.new.pass.seen x.result.1
+    t.ensures.begins t.ensures.own (ap (λ (p : PassModel NotedCall). p.seen) c.put-2.ensures.pass) ok
