@@ -1,0 +1,5 @@
+pub mod Splitting
+pub mod Making
+pub mod Grouped
+pub mod Crossing
+pub mod Joining
